@@ -1,0 +1,4 @@
+pub mod CheckLemmas
+pub mod DefaultLemmas
+pub mod PresetLemmas
+pub mod RenderLemmas

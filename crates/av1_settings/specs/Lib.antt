@@ -1,0 +1,12 @@
+pub mod Blocks
+pub mod Checks
+pub mod Defaults
+pub mod EncoderText
+pub mod FrameTypes
+pub mod Header
+pub mod Invalid
+pub mod Levels
+pub mod Presets
+pub mod Render
+pub mod Settings
+pub mod Texts

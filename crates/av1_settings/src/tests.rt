@@ -1,0 +1,3 @@
+mod color;
+mod settings;
+mod texts;
