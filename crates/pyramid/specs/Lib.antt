@@ -1,0 +1,11 @@
+pub mod Closed
+pub mod Commands
+pub mod Display
+pub mod Gop
+pub mod Moments
+pub mod Numbers
+pub mod Places
+pub mod Plan
+pub mod Refs
+pub mod RefsOf
+pub mod Settings

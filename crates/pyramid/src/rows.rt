@@ -1,0 +1,60 @@
+/// A place of a group.
+#[derive(Clone, Copy)]
+pub struct Row {
+    /// Its index in the group, in coding order.
+    pub index: u64,
+    /// How far its position is into the group.
+    pub offset: u64,
+    /// Its level in the pyramid.
+    pub level: u64,
+    /// Whether it is shown.
+    pub shown: bool,
+    /// Whether it shows what a slot holds, and codes nothing.
+    pub existing: bool,
+}
+
+/// The place table of a pyramid of depth 2: four inputs in six places.
+pub const ROWS: [Row; 6] = [
+    Row {
+        index: 0,
+        offset: 4,
+        level: 0,
+        shown: false,
+        existing: false,
+    },
+    Row {
+        index: 1,
+        offset: 2,
+        level: 1,
+        shown: false,
+        existing: false,
+    },
+    Row {
+        index: 2,
+        offset: 1,
+        level: 2,
+        shown: true,
+        existing: false,
+    },
+    Row {
+        index: 3,
+        offset: 2,
+        level: 1,
+        shown: true,
+        existing: true,
+    },
+    Row {
+        index: 4,
+        offset: 3,
+        level: 2,
+        shown: true,
+        existing: false,
+    },
+    Row {
+        index: 5,
+        offset: 4,
+        level: 0,
+        shown: true,
+        existing: true,
+    },
+];

@@ -1,0 +1,135 @@
+ghost use Rattle.std.specs.Prelude.{◌<◌};
+
+use crate::{Command, InterConfig, Refs, plan};
+use av1_settings::FrameType;
+use std::test::Fail;
+
+/// A pyramid of depth 2 with several references.
+const PYRAMID: InterConfig = InterConfig {
+    depth: 2,
+    multiref: true,
+    switch_interval: 0,
+};
+
+fn key(frame: u64) -> Command {
+    Command::Code {
+        frame,
+        kind: FrameType::KEY,
+        refs: Refs::none(),
+        refresh: 255,
+        shown: true,
+    }
+}
+
+fn inter(frame: u64, refs: Refs, refresh: u8, shown: bool) -> Command {
+    Command::Code {
+        frame,
+        kind: FrameType::INTER,
+        refs,
+        refresh,
+        shown,
+    }
+}
+
+fn show(slot: u8) -> Command {
+    Command::Show { slot }
+}
+
+/// The commands of a GOP of five inputs.
+fn whole_group(start: u64) -> [Command; 7]
+    requires { start < 100 }
+{
+    [
+        key(start),
+        inter(start + 4, Refs::of_two(0, 3), 2, false),
+        inter(start + 2, Refs::of_three(0, 1, 4), 16, false),
+        inter(start + 1, Refs::of_three(0, 4, 5), 32, true),
+        show(4),
+        inter(start + 3, Refs::of_three(4, 1, 5), 32, true),
+        show(1),
+    ]
+}
+
+#[test]
+fn ten_frames_in_two_gops(rt: HostRuntime) -> Result<(), Fail> {
+    let commands = plan(rt.alloc(), &PYRAMID, 5, 10, &[0])?;
+    assert_eq!(rt; commands.len(), 14);
+    assert_eq!(rt; &commands.as_slice()[..7], whole_group(0).as_slice());
+    assert_eq!(rt; &commands.as_slice()[7..], whole_group(5).as_slice());
+    Ok(())
+}
+
+#[test]
+fn seven_frames_cut_the_group(rt: HostRuntime) -> Result<(), Fail> {
+    let commands = plan(rt.alloc(), &PYRAMID, 5, 7, &[0])?;
+    assert_eq!(rt; commands.len(), 9);
+    assert_eq!(rt; &commands.as_slice()[..7], whole_group(0).as_slice());
+    let rest = [key(5), inter(6, Refs::of_three(0, 4, 5), 32, true)];
+    assert_eq!(rt; &commands.as_slice()[7..], rest.as_slice());
+    Ok(())
+}
+
+#[test]
+fn forced_key_at_two(rt: HostRuntime) -> Result<(), Fail> {
+    let commands = plan(rt.alloc(), &PYRAMID, 5, 5, &[0, 2])?;
+    let wanted = [
+        key(0),
+        inter(1, Refs::of_three(0, 4, 5), 32, true),
+        key(2),
+        inter(4, Refs::of_three(0, 1, 4), 16, false),
+        inter(3, Refs::of_three(0, 4, 5), 32, true),
+        show(4),
+    ];
+    assert_eq!(rt; commands.as_slice(), wanted.as_slice());
+    Ok(())
+}
+
+#[test]
+fn forced_key_at_one(rt: HostRuntime) -> Result<(), Fail> {
+    let commands = plan(rt.alloc(), &PYRAMID, 5, 5, &[0, 1])?;
+    let wanted = [
+        key(0),
+        key(1),
+        inter(3, Refs::of_three(0, 1, 4), 16, false),
+        inter(2, Refs::of_three(0, 4, 5), 32, true),
+        show(4),
+        inter(4, Refs::of_three(4, 1, 5), 32, true),
+    ];
+    assert_eq!(rt; commands.as_slice(), wanted.as_slice());
+    Ok(())
+}
+
+#[test]
+fn interval_of_one(rt: HostRuntime) -> Result<(), Fail> {
+    let commands = plan(rt.alloc(), &PYRAMID, 1, 3, &[0])?;
+    assert_eq!(rt; commands.as_slice(), [key(0), key(1), key(2)].as_slice());
+    Ok(())
+}
+
+#[test]
+fn slots_are_checked(rt: HostRuntime) {
+    let refs = Refs::new(&[4, 1, 5]).expect(&rt, "three slots");
+    assert_eq!(rt; refs.len(), 3);
+    assert_eq!(rt; refs.get(1), 1);
+    assert!(rt; Refs::new(&[]).is_some());
+    assert!(rt; Refs::new(&[0, 1, 2, 3]).is_none());
+    assert!(rt; Refs::new(&[8]).is_none());
+    assert!(rt; Refs::new(&[2, 5, 2]).is_none());
+}
+
+#[test]
+fn places_of_ten_frames(rt: HostRuntime) {
+    let inputs = [0, 4, 2, 1, 2, 3, 4];
+    for (place, input) in inputs.iter().enumerate() {
+        assert_eq!(rt; PYRAMID.get_input_frameno(place as u64, 5), 5 + *input);
+    }
+    let index = PYRAMID.get_idx_in_group_output(11);
+    assert_eq!(rt; index, 4);
+    assert_eq!(rt; PYRAMID.get_order_hint(11, index), 7);
+    assert_eq!(rt; PYRAMID.get_level(index), 2);
+    assert!(rt; PYRAMID.get_show_frame(index));
+    assert!(rt; !PYRAMID.get_show_existing_frame(index));
+    assert_eq!(rt; PYRAMID.get_slot_idx(2, 7), 5);
+    assert_eq!(rt; PYRAMID.refs_of(2, 7), Refs::of_three(4, 2, 5));
+    assert_eq!(rt; PYRAMID.keyframe_lookahead_distance(), 5);
+}
