@@ -1,0 +1,12 @@
+pub mod Along
+pub mod HeadlineLaw
+pub mod History
+pub mod Keys
+pub mod PlanLaw
+pub mod Receives
+pub mod Replay
+pub mod Runs
+pub mod Sound
+pub mod StateLemmas
+pub mod Steps
+pub mod Taken

@@ -1,0 +1,91 @@
+ghost use Rattle.std.specs.Prelude.{◌≡◌, ◌≤◌, ◌<◌, ◌^◌, Option, List, ℕ, length, IfOk};
+ghost use Rattle.coding_base.specs.Faults.{HasCause};
+ghost use Rattle.session_core.specs.declared.coder.CoderError.TheVariants.{Failed};
+ghost use Rattle.session_core.specs.Told.{Told, GrowsBy, told_code, told_show};
+
+use av1_frame::Frame;
+use coding_base::{Bytes, OutOfMemory};
+use pyramid::Command;
+use std::alloc::{AllocError, Global};
+use std::sync::Arc;
+
+/// What a coder is handed for a frame.
+#[derive(Drop)]
+pub struct CodeJob<T> {
+    /// The command, a `Code`.
+    pub command: Command,
+    /// Whether this is only a try, after which the coder's state is as before.
+    pub trial: bool,
+    /// The frame as it was sent.
+    pub picture: Arc<Frame<T>>,
+}
+
+/// What a coder gives back for a coded frame.
+#[derive(Drop)]
+pub struct CodedFrame {
+    /// Its bytes: not empty, and fewer than 2^48.
+    pub bytes: Bytes,
+}
+
+/// What a coder gives back for a frame that it shows from a slot.
+#[derive(Clone, Copy, Debug)]
+pub struct ShownFrame {
+    /// The three bytes of the header.
+    pub bytes: [u8; 3],
+}
+
+/// Why a coder gave nothing.
+#[derive(Clone, Copy, Debug, PartialEq, Eq)]
+pub enum CoderError {
+    /// The coder failed, and its count of faults rose.
+    Failed,
+    /// Memory ran out.
+    OutOfMemory,
+}
+
+impl From<OutOfMemory> for CoderError {
+    ghost use Rattle.std.specs.Prelude.{◌≡◌};
+    ghost use Rattle.session_core.specs.declared.coder.CoderError.{CoderError};
+
+    ghost from_gives = { λ _ e. e ≡ CoderError.OutOfMemory };
+
+    fn from(_: OutOfMemory) -> Self {
+        CoderError::OutOfMemory
+    }
+}
+
+impl From<AllocError> for CoderError {
+    ghost use Rattle.std.specs.Prelude.{◌≡◌};
+    ghost use Rattle.session_core.specs.declared.coder.CoderError.{CoderError};
+
+    ghost from_gives = { λ _ e. e ≡ CoderError.OutOfMemory };
+
+    fn from(_: AllocError) -> Self {
+        CoderError::OutOfMemory
+    }
+}
+
+/// Codes frames: the part of an encoder below the plan.
+pub trait FrameCoder<T> {
+    /// The calls that gave bytes, in order, where the coder tells them.
+    ghost told: { Self → Option (List (Told T)) };
+
+    /// How often the coder failed.
+    ghost faults: { Self → ℕ };
+
+    /// Codes a frame.
+    fn code(&mut self, alloc: Global, job: &CodeJob<T>) -> Result<CodedFrame, CoderError>
+        ensures told { GrowsBy (told self.old) (told self.new) result (λ coded. told_code job.now coded.bytes) }
+        ensures some_bytes { IfOk result (λ coded. 0 < length coded.bytes) }
+        ensures few_bytes { IfOk result (λ coded. length coded.bytes < 2 ^ 48) }
+        ensures cause { HasCause Failed (faults self.old) (faults self.new) result };
+
+    /// Shows what a slot holds, which is this frame.
+    fn show(&mut self, alloc: Global, slot: u8, frame: u64) -> Result<ShownFrame, CoderError>
+        ensures told { GrowsBy (told self.old) (told self.new) result (λ shown. told_show slot frame shown.bytes) }
+        ensures cause { HasCause Failed (faults self.old) (faults self.new) result };
+
+    /// How often the coder failed; the count stands still at its last value.
+    fn faults(&self) -> u64
+        ensures { result ≡ faults self.now };
+}
