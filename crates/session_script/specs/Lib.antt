@@ -1,0 +1,10 @@
+pub mod Calls
+pub mod CoderLog
+pub mod Grammar
+pub mod Lines
+pub mod Memory
+pub mod Report
+pub mod Run
+pub mod Scripted
+pub mod Stops
+pub mod Streams
