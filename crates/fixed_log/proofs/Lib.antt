@@ -1,0 +1,12 @@
+pub mod Angles
+pub mod Coefficients
+pub mod ExponentialRanges
+pub mod HighestBit
+pub mod Horner
+pub mod Laws
+pub mod LogarithmRanges
+pub mod Products
+pub mod Quotients
+pub mod Ranges
+pub mod Tangents
+pub mod Turns
