@@ -1,0 +1,6 @@
+pub mod Causes
+pub mod CollectedFacts
+pub mod MetricFacts
+pub mod Spelling
+pub mod SummaryFacts
+pub mod Written

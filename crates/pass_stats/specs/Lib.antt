@@ -1,0 +1,6 @@
+pub mod Bytes
+pub mod Collected
+pub mod Grammar
+pub mod Metric
+pub mod Summary
+pub mod Texts
