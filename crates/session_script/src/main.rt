@@ -14,6 +14,10 @@ mod standard;
 mod tests;
 mod write;
 
+ghost use Rattle.std.specs.Prelude.{◌≡◌, ◌⊎◌};
+ghost use Rattle.std.specs.Io.KnownBytes.{Appends};
+ghost use Rattle.coding_base.specs.Faults.{Rose};
+
 use run::run_script;
 use sink::Sink;
 use standard::{Reading, Writing};
@@ -92,7 +96,12 @@ fn asked(words: &[String]) -> Option<&'static str> {
     }
 }
 
-fn print<W: Sink>(sink: &mut W, text: &str) -> u8 {
+// Prints a text, and says the status.
+fn print<W: Sink>(sink: &mut W, text: &str) -> u8
+    ensures status { (result ≡ 0) ⊎ (result ≡ 6) }
+    ensures whole { result ≡ 0 → Appends (W.held sink.old) (W.held sink.new) text.now }
+    ensures write_fault { result ≡ 6 → Rose (W.faults sink.old) (W.faults sink.new) }
+{
     match write_all(sink, text.as_bytes()) {
         Ok(()) => 0,
         Err(_) => 6,

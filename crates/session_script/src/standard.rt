@@ -1,4 +1,5 @@
-ghost use Rattle.std.specs.Prelude.{None};
+ghost use Rattle.std.specs.Prelude.{◌≡◌, None};
+ghost use Rattle.session_script.specs.Adapters.{reading_faults, writing_faults};
 
 use crate::sink::Sink;
 use crate::source::{Failed, Source};
@@ -13,7 +14,9 @@ pub struct Reading<R> {
 
 impl<R> Reading<R> {
     /// A source over this reader.
-    pub fn new(reader: R) -> Reading<R> {
+    pub fn new(reader: R) -> Reading<R>
+        ensures { reading_faults result ≡ 0 }
+    {
         Reading { reader, faults: 0 }
     }
 }
@@ -43,7 +46,9 @@ pub struct Writing<W> {
 
 impl<W> Writing<W> {
     /// A sink over this writer.
-    pub fn new(writer: W) -> Writing<W> {
+    pub fn new(writer: W) -> Writing<W>
+        ensures { writing_faults result ≡ 0 }
+    {
         Writing { writer, faults: 0 }
     }
 }
