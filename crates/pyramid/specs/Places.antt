@@ -43,9 +43,9 @@ rows_of_depth_two =
 abbrev pub rows_of_depth_zero : List Row
 rows_of_depth_zero = row 0 1 0 true false ∷ []
 
--- the place table
+-- the place table, for the depths that there are
 abbrev pub rows_of : ℕ → List Row
-rows_of depth = if depth == 2 then rows_of_depth_two else rows_of_depth_zero
+rows_of depth = if depth == 2 then rows_of_depth_two else if depth == 0 then rows_of_depth_zero else []
 
 -- the row of an index of the place table
 abbrev pub row_at : ℕ → ℕ → Row

@@ -1,10 +1,10 @@
-// Sessions of 16-bit frames, with a coder whose frames have the sizes of the worked rows.
+// Sessions of 16-bit frames, with a coder whose key frames have 100 bytes and whose other frames have 20.
 ghost use Rattle.std.specs.Prelude.{None};
 ghost use Rattle.coding_base.specs.Faults.{HasCause};
 ghost use Rattle.session_core.specs.declared.coder.CoderError.TheVariants.{Failed};
 
 use super::*;
-use av1_frame::Frame;
+use av1_frame::{ChromaSampling, Frame};
 use av1_settings::{Config, EncoderConfig, EncoderStatus, FrameType, InvalidConfig};
 use coding_base::{Bytes, OutOfMemory};
 use pyramid::Command;
@@ -73,12 +73,13 @@ fn small(width: usize) -> Config {
     Config::new().with_encoder_config(enc)
 }
 
-fn calls(alloc: Global, sends: u64, receives: u64) -> Result<Vec<Call<u16, u64>>, OutOfMemory> {
+fn session_calls(
+    alloc: Global,
+    sends: u64,
+    receives: u64,
+) -> Result<Vec<Call<u16, u64>>, OutOfMemory> {
     let mut calls = Vec::new(alloc);
-    let picture = Arc::new(
-        alloc,
-        Frame::new(alloc, 64, 80, av1_frame::ChromaSampling::Cs420)?,
-    )?;
+    let picture = Arc::new(alloc, Frame::new(alloc, 64, 80, ChromaSampling::Cs420)?)?;
     for number in 0..sends {
         calls.push(Call::Send(
             Arc::try_clone(&picture)?,
@@ -103,7 +104,7 @@ fn ten_frames_come_back_in_order(rt: HostRuntime) -> Result<(), Fail> {
         fails: 99,
         faults: 0,
     };
-    let transcript = run_session(alloc, &small(64), &mut coder, calls(alloc, 10, 15)?)?;
+    let transcript = run_session(alloc, &small(64), &mut coder, session_calls(alloc, 10, 15)?)?;
     let mut sizes = Vec::new(alloc);
     for turn in transcript.turns.as_slice() {
         if let Reply::Packet(packet) = &turn.reply {
@@ -117,6 +118,56 @@ fn ten_frames_come_back_in_order(rt: HostRuntime) -> Result<(), Fail> {
     );
     assert_eq!(rt; coder.calls, 14);
     assert_eq!(rt; transcript.decisions.len(), 9);
+    Ok(())
+}
+
+#[test]
+fn refused_frames_change_nothing(rt: HostRuntime) -> Result<(), Fail> {
+    let alloc = rt.alloc();
+    let mut coder = SizedCoder {
+        calls: 0,
+        fails: 99,
+        faults: 0,
+    };
+    let small_frame = Frame::new(alloc, 32, 32, ChromaSampling::Cs420)?;
+    let mut calls = Vec::new(alloc);
+    calls.push(Call::Send(Arc::new(alloc, small_frame)?, None))?;
+    calls.append(&mut session_calls(alloc, 1, 2)?)?;
+    calls.append(&mut session_calls(alloc, 1, 1)?)?;
+    let transcript = run_session(alloc, &small(64), &mut coder, calls)?;
+    let mut statuses = Vec::new(alloc);
+    for turn in transcript.turns.as_slice() {
+        if let Reply::Status(status) = &turn.reply {
+            statuses.push(*status)?;
+        }
+    }
+    let wanted = [
+        EncoderStatus::FrameSizeMismatch,
+        EncoderStatus::LimitReached,
+        EncoderStatus::EnoughData,
+        EncoderStatus::LimitReached,
+    ];
+    assert_eq!(rt; statuses.as_slice(), wanted.as_slice());
+    assert_eq!(rt; transcript.turns.len(), 8);
+    assert_eq!(rt; coder.calls, 1);
+    Ok(())
+}
+
+#[test]
+fn a_receive_before_the_flush_is_unbuilt(rt: HostRuntime) -> Result<(), Fail> {
+    let alloc = rt.alloc();
+    let mut coder = SizedCoder {
+        calls: 0,
+        fails: 0,
+        faults: 0,
+    };
+    let mut calls: Vec<Call<u16, u64>> = Vec::new(alloc);
+    calls.push(Call::Receive)?;
+    match run_session(alloc, &small(64), &mut coder, calls) {
+        Err(error) => assert_eq!(rt; error, SessionError::Unbuilt),
+        Ok(_) => assert!(rt; false, "it was answered"),
+    }
+    assert_eq!(rt; coder.faults(), 0);
     Ok(())
 }
 
@@ -136,7 +187,12 @@ fn each_refusal_has_its_answer(rt: HostRuntime) -> Result<(), Fail> {
             fails,
             faults: 0,
         };
-        match run_session(alloc, &small(width), &mut coder, calls(alloc, 10, 15)?) {
+        match run_session(
+            alloc,
+            &small(width),
+            &mut coder,
+            session_calls(alloc, 10, 15)?,
+        ) {
             Err(error) => assert_eq!(rt; error, wanted),
             Ok(_) => assert!(rt; false, "it was answered"),
         }

@@ -1,19 +1,18 @@
 -- What a run prints.
-use Rattle.std.specs.Prelude.{ℕ, Bool, if◌then◌else◌, List, [], ◌∷◌, ◌++◌, length, codes}
+use Rattle.std.specs.Prelude.{ℕ, Bool, if◌then◌else◌, List, [], ◌∷◌, ◌++◌, codes}
 use Rattle.std.specs.List.{flat_map}
 use Rattle.std.specs.Fmt.{decimal}
 use Rattle.av1_settings.specs.declared.frame_type.FrameType.{FrameType}
 use Rattle.av1_settings.specs.declared.frame_type.FrameType.TheVariants.{KEY, INTER, INTRA_ONLY, SWITCH}
 use Rattle.av1_settings.specs.declared.status.EncoderStatus.{EncoderStatus}
 use Rattle.av1_settings.specs.declared.status.EncoderStatus.TheVariants.{NeedMoreData, EnoughData, LimitReached, Encoded, Failure, NotReady, FrameSizeMismatch, OutOfMemory}
-use Rattle.av1_settings.specs.Texts.{frame_type_text}
 use Rattle.pyramid.specs.declared.command.Command.{Command}
 use Rattle.pyramid.specs.declared.command.Command.TheVariants.{Code, Show}
-use Rattle.session_core.specs.declared.packet.Packet.{Packet}
 use Rattle.session_core.specs.declared.transcript.LogEntry.{LogEntry}
 use Rattle.session_core.specs.declared.transcript.Reply.{Reply}
 use Rattle.session_core.specs.declared.transcript.Reply.TheVariants.{Sent, Flushed, Packet as GivesPacket, Status}
 use Rattle.session_core.specs.declared.transcript.Turn.{Turn}
+use Rattle.session_core.specs.PacketText.{packet_text}
 
 abbrev pub kind_word : FrameType → List ℕ
 kind_word KEY = codes "key"
@@ -44,14 +43,6 @@ unfoldable pub command_line : Command → List ℕ
 command_line (Code frame kind refs refresh shown) = code_line frame (kind_word kind) refs refresh (shown_word shown)
 command_line (Show slot) = codes "show " ++ (decimal slot ++ 10 ∷ [])
 
--- the line of a packet
-unfoldable pub packet_line : {T O : Type 0} → Packet T O → List ℕ
-packet_line packet =
-    codes "Frame "
-    ++ (decimal packet.input_frameno
-    ++ (codes " - "
-    ++ (frame_type_text packet.frame_type ++ (codes " - " ++ (decimal (length packet.bytes) ++ (codes " bytes" ++ 10 ∷ []))))))
-
 abbrev pub status_word : EncoderStatus → List ℕ
 status_word NeedMoreData = codes "need-more-data"
 status_word EnoughData = codes "send enough-data"
@@ -66,7 +57,7 @@ status_word OutOfMemory = codes "out-of-memory"
 unfoldable pub reply_line : {T O : Type 0} → Reply T O → List ℕ
 reply_line (Sent number) = codes "sent " ++ (decimal number ++ 10 ∷ [])
 reply_line Flushed = codes "flushed" ++ 10 ∷ []
-reply_line (GivesPacket packet) = packet_line packet
+reply_line (GivesPacket packet) = packet_text packet ++ 10 ∷ []
 reply_line (Status status) = status_word status ++ 10 ∷ []
 
 -- the lines of what a call coded

@@ -38,8 +38,8 @@ Words:
 
 A script has a line for each setting, then a line for each call. Empty lines and lines that begin with # are skipped.
   size W H            frames of W by H samples (640 480)
-  keyint MIN MAX      least and greatest distance of two key frames (12 240; 0 is the greatest that there is)
-  rdo N               coded frames that have to be known before one is coded (20)
+  keyint MIN MAX      least and greatest distance of two key frames (12 240; a MAX of 0 is 715827882). Nothing reads MIN yet
+  rdo N               frames of lookahead (20); checked, and without effect while receives stand behind the flush
   send, send N        sends a frame, or N
   sendkey             sends a frame as a key frame
   flush               no further frame comes

@@ -1,10 +1,10 @@
 ghost use Rattle.std.specs.Prelude.{◌≡◌, ◌++◌, IfOk, OnOk, string_bytes, flat_map};
-ghost use Rattle.session_script.specs.Report.{report, turn_lines, command_line, code_line, commands_lines, kind_word, shown_word, slots_text, reply_line, packet_line, status_word};
+ghost use Rattle.session_script.specs.Report.{report, turn_lines, command_line, code_line, commands_lines, kind_word, shown_word, slots_text, reply_line, status_word};
 
 use av1_settings::{EncoderStatus, FrameType};
 use coding_base::OutOfMemory;
 use pyramid::{Command, Refs};
-use session_core::{LogEntry, Packet, Reply, Transcript, Turn};
+use session_core::{LogEntry, Reply, Transcript, Turn};
 use std::alloc::Global;
 
 /// The report of a run: for each call a line for each command that it coded, and a line with the reply.
@@ -123,24 +123,16 @@ fn write_reply(text: &mut String, reply: &Reply<u8, u64>) -> Result<(), OutOfMem
             writeln!(text, "flushed")?;
             Ok(())
         }
-        Reply::Packet(packet) => write_packet(text, packet),
+        Reply::Packet(packet) => {
+            writeln!(text, "{packet}")?;
+            Ok(())
+        }
         Reply::Status(status) => {
             let word = status_word(*status);
             writeln!(text, "{word}")?;
             Ok(())
         }
     }
-}
-
-#[tactic(auto, unfolding(crate::specs::Report::packet_line))]
-fn write_packet(text: &mut String, packet: &Packet<u8, u64>) -> Result<(), OutOfMemory>
-    ensures { OnOk result (string_bytes text.new ≡ string_bytes text.old ++ packet_line packet.now) }
-{
-    let number = packet.input_frameno;
-    let frame_type = packet.frame_type;
-    let len = packet.bytes.len();
-    writeln!(text, "Frame {number} - {frame_type} - {len} bytes")?;
-    Ok(())
 }
 
 fn status_word(status: EncoderStatus) -> &'static str
