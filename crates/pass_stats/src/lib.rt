@@ -22,6 +22,7 @@
 mod bytes;
 mod deserialize;
 mod error;
+pub mod laws;
 mod metrics;
 mod parse;
 mod summary;

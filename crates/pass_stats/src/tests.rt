@@ -1,9 +1,9 @@
-ghost use Rattle.std.specs.Prelude.{◌≡◌, ◌+◌, ◌≤◌, length};
+ghost use Rattle.std.specs.Prelude.{◌+◌, ◌≤◌, length};
 
-use crate::bytes::chunk;
+use crate::laws::{metrics_again, summary_again};
 use crate::{
-    InvalidFrameType, RCDeserialize, RCFrameMetrics, RCSummary, RateControlError, Why,
-    parse_metrics, parse_summary, write_metrics, write_placeholder, write_summary,
+    InvalidFrameType, RCDeserialize, RCFrameMetrics, RateControlError, Why, parse_metrics,
+    parse_summary, write_metrics, write_placeholder, write_summary,
 };
 use std::process::Abort;
 use std::test::Fail;
@@ -14,22 +14,6 @@ const SUMMARY: [u8; 68] = [
     0, 0, 0, 0, 0x30, 0x45, 0x54, 0x57, 0, 0, 0, 0, 0, 0, 0, 0, 0, 0, 0, 0, 0, 0, 0, 0, 0, 0, 0, 0,
     0, 0, 0, 0, 0, 0, 0, 0, 0, 0, 0, 0,
 ];
-
-/// Writes a summary and reads it, which gives the same summary again.
-fn summary_again(s: &RCSummary) -> Result<RCSummary, RateControlError>
-    ensures { result ≡ Ok s.now }
-{
-    parse_summary(write_summary(s.ntus, s.nframes, s.exp, s.scale_sum).as_slice())
-}
-
-/// Writes metrics and reads them, which gives the same metrics again.
-fn metrics_again(m: &RCFrameMetrics) -> Result<RCFrameMetrics, InvalidFrameType>
-    requires { m.now.fti ≤ 4 }
-    ensures { result ≡ Ok m.now }
-{
-    let bytes = write_metrics(m);
-    parse_metrics(&chunk(bytes.as_slice(), 0))
-}
 
 fn assert_is_summary(rt: &impl Abort, bytes: &[u8]) -> Result<(), RateControlError> {
     let summary = parse_summary(bytes)?;
@@ -57,6 +41,7 @@ fn summaries(rt: HostRuntime) -> Result<(), Fail> {
     let mut longer = [0xff; 78];
     longer[..68].copy_from_slice(&SUMMARY);
     assert_is_summary(&rt, &longer)?;
+    assert_eq!(rt; parse_summary(&SUMMARY)?.clone()?.total, 1);
 
     let written = write_summary(1, [1, 0, 0, 0, 0], [48, 69, 84, 87], [0; 4]);
     assert_eq!(rt; written.as_slice(), SUMMARY.as_slice());

@@ -1,7 +1,7 @@
 use Rattle.std.proofs.Common.{◌≡◌, take, arith}
 use Rattle.std.proofs.lemmas.List.{take_all}
 use Rattle.pass_stats.specs.Metric.{Metric}
-use Rattle.pass_stats.proofs.tests.metrics_again.Goals as goal
+use Rattle.pass_stats.proofs.laws.metrics_again.Goals as goal
 
 pub returns : goal.returns
 returns c =

@@ -2,7 +2,7 @@ use Rattle.std.proofs.Common.{◌≡◌, take, w32, FitsSigned, arith, rules}
 use Rattle.std.proofs.lemmas.Int.{to_z-of_z}
 use Rattle.std.proofs.lemmas.List.{take_all}
 use Rattle.pass_stats.specs.Summary.{Summary, Spells}
-use Rattle.pass_stats.proofs.tests.summary_again.Goals as goal
+use Rattle.pass_stats.proofs.laws.summary_again.Goals as goal
 
 pub returns : goal.returns
 returns c =
