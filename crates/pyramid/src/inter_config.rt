@@ -39,9 +39,10 @@ impl Model for InterConfig {
 
 impl InterConfig {
     /// The numbers for these settings: a pyramid of depth 2 with several references.
-    pub fn new(_enc: &EncoderConfig) -> InterConfig
-        ensures { result ≡ numbers_of _enc.now }
+    pub fn new(enc: &EncoderConfig) -> InterConfig
+        ensures { result ≡ numbers_of enc.now }
     {
+        let _ = enc;
         InterConfig {
             depth: 2,
             multiref: true,
@@ -54,6 +55,7 @@ impl InterConfig {
         requires { 1 ≤ output_frameno_in_gop }
         ensures { result ≡ index_of self.now output_frameno_in_gop }
     {
+        // Reading a field tells the checker what the type keeps: that the depth is 2.
         let _depth = self.depth;
         (output_frameno_in_gop - 1) % GROUP_PLACES
     }

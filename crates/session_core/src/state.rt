@@ -23,9 +23,6 @@ use std::sync::Arc;
 /// The most frames that a session accepts.
 const FRAME_LIMIT: usize = 2147483646;
 
-/// How many frames have to follow a position before it is decided.
-const AHEAD: usize = 6;
-
 /// The interval that a maximum of 0 stands for.
 const MAX_KEY_FRAME_INTERVAL: u64 = 715827882;
 
@@ -104,6 +101,7 @@ impl<T: Drop, O: Drop> SessionState<T, O> {
         })
     }
 
+    /// Accepts a frame, and decides the position that has enough frames behind it now.
     fn send(
         &mut self,
         enc: &EncoderConfig,
@@ -124,11 +122,13 @@ impl<T: Drop, O: Drop> SessionState<T, O> {
         }
         let number = self.sent.len() as u64;
         self.sent.push(sent_frame(frame, parameters))?;
+        let behind = InterConfig::new(enc).keyframe_lookahead_distance() as usize + 2;
         let accepted = self.sent.len();
-        self.decide(accepted.saturating_sub(AHEAD + 1))?;
+        self.decide(accepted.saturating_sub(behind))?;
         Ok(Reply::Sent(number))
     }
 
+    /// Takes no further frame, and decides all positions that are left.
     fn flush(&mut self) -> Result<Reply<T, O>, OutOfMemory>
         requires decided { self.old.decisions.items ≡ decisions_on (moment_of self.old).sent (length self.old.decisions.items) }
         requires within { length self.old.decisions.items ≤ length self.old.sent.items - 1 }
@@ -161,6 +161,7 @@ impl<T: Drop, O: Drop> SessionState<T, O> {
         Ok(())
     }
 
+    /// Has the coder carry out the plan's next command, and answers it.
     fn receive<C: FrameCoder<T>>(
         &mut self,
         alloc: Global,
@@ -220,6 +221,7 @@ impl<T: Drop, O: Drop> SessionState<T, O> {
         )
     }
 
+    /// The positions that were decided to be keys, with the first frame.
     fn keys(&self, alloc: Global) -> Result<Vec<u64>, OutOfMemory>
         ensures { IfOk result (λ keys. keys.items ≡ keys_from (moment_of self.now).sent self.now.decisions.items) }
     {
@@ -274,6 +276,7 @@ impl<T: Drop, O: Drop> SessionState<T, O> {
         })
     }
 
+    /// The session's error for one of the coder's.
     fn failed(&self, error: CoderError) -> SessionError
         ensures failed { error ≡ CoderError.Failed → result ≡ CoderFault self.now.commands }
         ensures memory { error ≡ CoderError.OutOfMemory → result ≡ SessionError.OutOfMemory }
@@ -312,6 +315,7 @@ impl<T: Drop, O: Drop> SessionState<T, O> {
         Ok(Reply::Packet(packet))
     }
 
+    /// The packet of the next frame, which the command of this entry shows.
     fn packet(
         &mut self,
         alloc: Global,
@@ -338,6 +342,7 @@ impl<T: Drop, O: Drop> SessionState<T, O> {
     }
 }
 
+/// A frame as its parameters ask for it.
 fn sent_frame<T, O>(
     picture: Arc<Frame<T>>,
     parameters: Option<FrameParameters<O>>,

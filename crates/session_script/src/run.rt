@@ -143,7 +143,7 @@ fn carry_out_bytes(alloc: Global, bytes: &[u8]) -> Result<Transcript<u8, u64>, S
     }
 }
 
-// Carries out the calls of a script, if its configuration is valid.
+// Carries out the calls of a script, if its configuration is valid: only then is the picture's size within its bounds.
 fn carry_out_calls(alloc: Global, script: &Script) -> Result<Transcript<u8, u64>, Stop>
     requires { receives_first script.now.actions ≡ false }
     ensures ok { IfOk result (λ transcript. CarriesOut script.now transcript) }
@@ -159,8 +159,9 @@ fn carry_out_calls(alloc: Global, script: &Script) -> Result<Transcript<u8, u64>
     let mut coder = ScriptedCoder::new(alloc);
     match run_session(alloc, &config, &mut coder, calls) {
         Ok(transcript) => Ok(transcript),
-        Err(SessionError::Invalid(invalid)) => Err(Stop::Refused(invalid.number())),
         Err(SessionError::OutOfMemory) => Err(Stop::OutOfMemory),
+        // The configuration was found valid above, the script's coder never fails, and its receives stand behind a flush.
+        Err(SessionError::Invalid(_)) => unreachable!(),
         Err(SessionError::CoderFault { .. }) => unreachable!(),
         Err(SessionError::Unbuilt) => unreachable!(),
     }
