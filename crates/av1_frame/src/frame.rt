@@ -67,8 +67,10 @@ impl<T: Pixel> Frame<T> {
         requires wide { width ≤ 65535 }
         requires high { height ≤ 65535 }
         ensures y { IfOk result (λ frame. IsFilled T.MIN frame.y (width, height)) }
-        ensures u { IfOk result (λ frame. IsFilled T.MIN frame.u (chroma_size width height chroma)) }
-        ensures v { IfOk result (λ frame. IsFilled T.MIN frame.v (chroma_size width height chroma)) }
+        ensures u { IfOk result
+            (λ frame. IsFilled T.MIN frame.u (chroma_size width height chroma)) }
+        ensures v { IfOk result
+            (λ frame. IsFilled T.MIN frame.v (chroma_size width height chroma)) }
     {
         let [luma, chroma_u, chroma_v] = sizes(width, height, chroma);
         Ok(Frame {

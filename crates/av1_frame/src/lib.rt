@@ -42,6 +42,18 @@ mod tests {
     }
 
     #[test]
+    fn samplings_are_in_order(rt: HostRuntime) {
+        for (sampling, place) in [
+            (ChromaSampling::Cs420, 0),
+            (ChromaSampling::Cs422, 1),
+            (ChromaSampling::Cs444, 2),
+            (ChromaSampling::Cs400, 3),
+        ] {
+            assert_eq!(rt; sampling as u8, place);
+        }
+    }
+
+    #[test]
     fn a_deep_frame_without_chroma_fits_by_luma(rt: HostRuntime) -> Result<(), Fail> {
         let frame: Frame<u16> = Frame::new(rt.alloc(), 16, 16, ChromaSampling::Cs420)?;
         assert!(rt; frame.fits(16, 16, ChromaSampling::Cs400));
