@@ -8,5 +8,6 @@ pub mod LogarithmRanges
 pub mod Products
 pub mod Quotients
 pub mod Ranges
+pub mod Sizes
 pub mod Tangents
 pub mod Turns

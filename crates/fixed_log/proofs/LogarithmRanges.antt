@@ -7,8 +7,7 @@ use Rattle.std.proofs.lemmas.Bool.{and_parts, ltb-true, leb-true, le-ltb}
 use Rattle.std.proofs.lemmas.Int.{ints}
 use Rattle.std.proofs.lemmas.Nat.{pow_pos}
 use Rattle.fixed_log.specs.Table.{angle_of, turns_from, stepped}
-use Rattle.fixed_log.specs.Logarithm.{log_turn, IsFit, IsLogStart}
-use Rattle.fixed_log.specs.declared.logarithm.Logarithm.{Logarithm}
+use Rattle.fixed_log.specs.Logarithm.{LogState, log_turn, IsFit, IsLogStart}
 use Rattle.fixed_log.proofs.Quotients.{div_mono}
 use Rattle.fixed_log.proofs.Ranges.{InLeft, spread_turn}
 use Rattle.fixed_log.proofs.Turns.{all_pass, run_in, run_each}
@@ -21,7 +20,7 @@ pub record LogRange : Type 0 where
   pub over : ℕ
   pub spread : ℕ
 
-pub record InLogRange (s : Logarithm) (r : LogRange) : Type 0 where
+pub record InLogRange (s : LogState) (r : LogRange) : Type 0 where
   pub cosh : ℕ
   pub cosh_is : s.cosh ≡ pos cosh
   pub low : r.low ≤ cosh
@@ -87,7 +86,7 @@ rotated (negsuc n) c m r p room low high h =
     let least = h.above in
     rotated_back n c m r p room low high (omega (arith, ints))
 
-pub log_turn_in : (i : ℕ) (s : Logarithm) (r : LogRange) → can_turn i r ≡ true → InLogRange s r → InLogRange (log_turn i s) (log_range i r)
+pub log_turn_in : (i : ℕ) (s : LogState) (r : LogRange) → can_turn i r ≡ true → InLogRange s r → InLogRange (log_turn i s) (log_range i r)
 log_turn_in i s r test h =
     let parts = and_parts (nat_le (most_drop (2 ^ (i + 1)) r) r.low) (is_fit_range (log_range i r)) test in
     let room : most_drop (2 ^ (i + 1)) r ≤ r.low = leb-true _ _ parts.0 in
@@ -103,7 +102,7 @@ log_turn_in i s r test h =
       below = log.1;
     }
 
-IsFit-range : (s : Logarithm) (r : LogRange) → is_fit_range r ≡ true → InLogRange s r → IsFit s
+IsFit-range : (s : LogState) (r : LogRange) → is_fit_range r ≡ true → InLogRange s r → IsFit s
 IsFit-range s r fit h =
     let p = and_parts (nat_lt r.high (2 ^ 63)) (nat_lt r.under (2 ^ 63) && (nat_lt r.over (2 ^ 63) && nat_lt r.spread (2 ^ 63))) fit in
     let q = and_parts (nat_lt r.under (2 ^ 63)) (nat_lt r.over (2 ^ 63) && nat_lt r.spread (2 ^ 63)) p.1 in
@@ -120,17 +119,17 @@ IsFit-range s r fit h =
     let e = h.below in
     record { cosh = rw is (omega (arith, ints)); sinh = omega (arith, ints); log = omega (arith, ints) }
 
-turn_fit : (i : ℕ) (s : Logarithm) (r : LogRange) → can_turn i r ≡ true → InLogRange s r → IsFit (log_turn i s)
+turn_fit : (i : ℕ) (s : LogState) (r : LogRange) → can_turn i r ≡ true → InLogRange s r → IsFit (log_turn i s)
 turn_fit i s r test h =
     let parts = and_parts (nat_le (most_drop (2 ^ (i + 1)) r) r.low) (is_fit_range (log_range i r)) test in
     IsFit-range (log_turn i s) (log_range i r) parts.1 (log_turn_in i s r test h)
 
-run_fit : (first count : ℕ) (s : Logarithm) (r : LogRange) → all_pass can_turn log_range first count r ≡ true → InLogRange s r
+run_fit : (first count : ℕ) (s : LogState) (r : LogRange) → all_pass can_turn log_range first count r ≡ true → InLogRange s r
     → (k : ℕ) → k < count → IsFit (log_turn (first + k) (turns_from log_turn first k s))
 run_fit first count s r pass h =
     run_each log_turn log_range can_turn InLogRange (λ i t. IsFit (log_turn i t)) log_turn_in turn_fit first count s r pass h
 
-run_range : (first count : ℕ) (s : Logarithm) (r : LogRange) → all_pass can_turn log_range first count r ≡ true → InLogRange s r
+run_range : (first count : ℕ) (s : LogState) (r : LogRange) → all_pass can_turn log_range first count r ≡ true → InLogRange s r
     → InLogRange (turns_from log_turn first count s) (turns_from log_range first count r)
 run_range first count s r pass h = run_in log_turn log_range can_turn InLogRange log_turn_in first count s r pass h
 
@@ -154,19 +153,19 @@ range_4 = turns_from log_range 39 23 range_3
 unfoldable range_short : LogRange
 range_short = turns_from log_range 12 18 range_2
 
-abbrev pub state_1 : Logarithm → Logarithm
+abbrev pub state_1 : LogState → LogState
 state_1 s = turns_from log_turn 0 4 s
 
-abbrev pub state_2 : Logarithm → Logarithm
+abbrev pub state_2 : LogState → LogState
 state_2 s = turns_from log_turn 3 10 (state_1 s)
 
-abbrev pub state_3 : Logarithm → Logarithm
+abbrev pub state_3 : LogState → LogState
 state_3 s = turns_from log_turn 12 28 (state_2 s)
 
-abbrev pub state_4 : Logarithm → Logarithm
+abbrev pub state_4 : LogState → LogState
 state_4 s = turns_from log_turn 39 23 (state_3 s)
 
-abbrev pub state_short : Logarithm → Logarithm
+abbrev pub state_short : LogState → LogState
 state_short s = turns_from log_turn 12 18 (state_2 s)
 
 passes_1 : all_pass can_turn log_range 0 4 range_0 ≡ true
@@ -197,7 +196,7 @@ bound_short : nat_le range_short.spread (7 * 2 ^ 60) ≡ true
 unfolding range_short range_2 range_1 turns_from angle_of
 bound_short = refl
 
-in_0 : (s : Logarithm) → IsLogStart s → InLogRange s range_0
+in_0 : (s : LogState) → IsLogStart s → InLogRange s range_0
 in_0 s h = start_in s.cosh s.sinh s.log h.cosh_low h.cosh_high h.sinh_low h.sinh_high h.log where
   start_in : (x y z : ℤ) → pos (2 ^ 62) ≤ℤ x → x <ℤ pos (3 * 2 ^ 61) → pos 0 ≤ℤ y → y <ℤ pos (2 ^ 61) → z ≡ pos 0 → InLogRange (record { cosh = x; sinh = y; log = z }) range_0
   start_in (pos x) y z a b d e f = record {
@@ -211,42 +210,42 @@ in_0 s h = start_in s.cosh s.sinh s.log h.cosh_low h.cosh_high h.sinh_low h.sinh
   }
   start_in (negsuc x) y z a b d e f = absurd a.le
 
-in_1 : (s : Logarithm) → IsLogStart s → InLogRange (state_1 s) range_1
+in_1 : (s : LogState) → IsLogStart s → InLogRange (state_1 s) range_1
 unfolding range_1
 in_1 s h = run_range 0 4 s range_0 passes_1 (in_0 s h)
 
-in_2 : (s : Logarithm) → IsLogStart s → InLogRange (state_2 s) range_2
+in_2 : (s : LogState) → IsLogStart s → InLogRange (state_2 s) range_2
 unfolding range_2
 in_2 s h = run_range 3 10 (state_1 s) range_1 passes_2 (in_1 s h)
 
-in_3 : (s : Logarithm) → IsLogStart s → InLogRange (state_3 s) range_3
+in_3 : (s : LogState) → IsLogStart s → InLogRange (state_3 s) range_3
 unfolding range_3
 in_3 s h = run_range 12 28 (state_2 s) range_2 passes_3 (in_2 s h)
 
-in_4 : (s : Logarithm) → IsLogStart s → InLogRange (state_4 s) range_4
+in_4 : (s : LogState) → IsLogStart s → InLogRange (state_4 s) range_4
 unfolding range_4
 in_4 s h = run_range 39 23 (state_3 s) range_3 passes_4 (in_3 s h)
 
-in_short : (s : Logarithm) → IsLogStart s → InLogRange (state_short s) range_short
+in_short : (s : LogState) → IsLogStart s → InLogRange (state_short s) range_short
 unfolding range_short
 in_short s h = run_range 12 18 (state_2 s) range_2 passes_short (in_2 s h)
 
-pub fit_1 : (s : Logarithm) → IsLogStart s → (k : ℕ) → k < 4 → IsFit (log_turn (0 + k) (turns_from log_turn 0 k s))
+pub fit_1 : (s : LogState) → IsLogStart s → (k : ℕ) → k < 4 → IsFit (log_turn (0 + k) (turns_from log_turn 0 k s))
 fit_1 s h = run_fit 0 4 s range_0 passes_1 (in_0 s h)
 
-pub fit_2 : (s : Logarithm) → IsLogStart s → (k : ℕ) → k < 10 → IsFit (log_turn (3 + k) (turns_from log_turn 3 k (state_1 s)))
+pub fit_2 : (s : LogState) → IsLogStart s → (k : ℕ) → k < 10 → IsFit (log_turn (3 + k) (turns_from log_turn 3 k (state_1 s)))
 fit_2 s h = run_fit 3 10 (state_1 s) range_1 passes_2 (in_1 s h)
 
-pub fit_3 : (s : Logarithm) → IsLogStart s → (k : ℕ) → k < 28 → IsFit (log_turn (12 + k) (turns_from log_turn 12 k (state_2 s)))
+pub fit_3 : (s : LogState) → IsLogStart s → (k : ℕ) → k < 28 → IsFit (log_turn (12 + k) (turns_from log_turn 12 k (state_2 s)))
 fit_3 s h = run_fit 12 28 (state_2 s) range_2 passes_3 (in_2 s h)
 
-pub fit_4 : (s : Logarithm) → IsLogStart s → (k : ℕ) → k < 23 → IsFit (log_turn (39 + k) (turns_from log_turn 39 k (state_3 s)))
+pub fit_4 : (s : LogState) → IsLogStart s → (k : ℕ) → k < 23 → IsFit (log_turn (39 + k) (turns_from log_turn 39 k (state_3 s)))
 fit_4 s h = run_fit 39 23 (state_3 s) range_3 passes_4 (in_3 s h)
 
-pub fit_short : (s : Logarithm) → IsLogStart s → (k : ℕ) → k < 18 → IsFit (log_turn (12 + k) (turns_from log_turn 12 k (state_2 s)))
+pub fit_short : (s : LogState) → IsLogStart s → (k : ℕ) → k < 18 → IsFit (log_turn (12 + k) (turns_from log_turn 12 k (state_2 s)))
 fit_short s h = run_fit 12 18 (state_2 s) range_2 passes_short (in_2 s h)
 
-pub within_4 : (s : Logarithm) → IsLogStart s → (negsuc (7 * 2 ^ 60 - 1) ≤ℤ (state_4 s).log) × ((state_4 s).log ≤ℤ pos (7 * 2 ^ 60))
+pub within_4 : (s : LogState) → IsLogStart s → (negsuc (7 * 2 ^ 60 - 1) ≤ℤ (state_4 s).log) × ((state_4 s).log ≤ℤ pos (7 * 2 ^ 60))
 within_4 s h =
     let spread : range_4.spread ≤ 7 * 2 ^ 60 = leb-true _ _ bound_4 in
     let within = in_4 s h in
@@ -254,7 +253,7 @@ within_4 s h =
     let b = within.below in
     (omega (arith, ints), omega (arith, ints))
 
-pub within_short : (s : Logarithm) → IsLogStart s → (negsuc (7 * 2 ^ 60 - 1) ≤ℤ (state_short s).log) × ((state_short s).log ≤ℤ pos (7 * 2 ^ 60))
+pub within_short : (s : LogState) → IsLogStart s → (negsuc (7 * 2 ^ 60 - 1) ≤ℤ (state_short s).log) × ((state_short s).log ≤ℤ pos (7 * 2 ^ 60))
 within_short s h =
     let spread : range_short.spread ≤ 7 * 2 ^ 60 = leb-true _ _ bound_short in
     let within = in_short s h in

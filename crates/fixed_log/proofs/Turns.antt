@@ -1,5 +1,5 @@
 -- Runs of turns: one turn more, and ranges that a run keeps its state in.
-use Rattle.std.proofs.Common.{◌≡◌, ℕ, zero, suc, ◌+◌, ◌<◌, Bool, true, ◌&&◌, refl, subst, arith, add-one, inl, inr}
+use Rattle.std.proofs.Common.{◌≡◌, ℕ, zero, suc, ◌+◌, ◌<◌, Bool, true, ◌&&◌, refl, subst, arith, add-zero, add-one, add-suc, add_assoc, inl, inr, ◌-◌}
 use Rattle.std.proofs.lemmas.Bool.{and_parts, cases_lt}
 use Rattle.fixed_log.specs.Table.{turns_from}
 
@@ -48,3 +48,18 @@ run_each turn range test In Holds step holds first (suc n) s r passed within k h
           (holds (first + n) (turns_from turn first n s) (turns_from range first n r) parts.1
           (run_in turn range test In step first n s r parts.0 within))
     ]
+
+-- a run after a run is one run
+pub turns_from-join : {S : Type 0} (turn : ℕ → S → S) (first n k : ℕ) (s : S)
+    → turns_from turn (first + n) k (turns_from turn first n s) ≡ turns_from turn first (n + k) s
+unfolding turns_from
+turns_from-join turn first n zero s = rw add-zero refl
+turns_from-join turn first n (suc k) s = rw (turns_from-join turn first n k s, add-suc, add_assoc) refl
+
+-- what holds at each turn of a run holds at each turn of its second part
+pub run_later : {S : Type 0} (turn : ℕ → S → S) (Holds : ℕ → S → Type 0) (first n count : ℕ) (s middle : S) → middle ≡ turns_from turn first n s
+    → ((k : ℕ) → k < count → Holds (first + k) (turns_from turn first k s))
+    → (k : ℕ) → k < count - n → Holds (first + n + k) (turns_from turn (first + n) k middle)
+run_later turn Holds first n count s middle is each k below =
+    let inside : n + k < count = omega arith in
+    rw (is, turns_from-join, add_assoc) (each (n + k) inside)

@@ -3,6 +3,7 @@ ghost use Rattle.std.specs.Int.{int_shr, saturate_signed, w32, w128};
 ghost use Rattle.fixed_log.specs.Bessel.{Follower, tangent as tangent_of, interpolated as interpolated_of, warp as warp_of, squared as squared_of, divisor as divisor_of, gain as gain_of, inverse as inverse_of, feedback_1 as feedback_1_of, feedback_2 as feedback_2_of, rounded as rounded_of, with_delay, with_value, follower, weighted, filtered, updated, FitsTypes};
 ghost use Rattle.fixed_log.specs.Within.{IsWithin};
 
+use crate::wide::saturated_32;
 use std::marker::Model;
 
 /// Entry `i` is `tan(i * pi / 36)`, of scale 2^12, rounded.
@@ -20,6 +21,8 @@ fn tangent(i: usize) -> u64
 }
 
 /// The tangent that lies `rest / 2^24` of the way from entry `i` to the next.
+///
+/// rav1e forms the product that is `slope` here in 16 bits, where it wraps.
 #[tactic(auto, using(crate::proofs::Tangents::tangent_rises), unfolding(crate::specs::Bessel::interpolated))]
 fn interpolated(i: usize, rest: u64) -> u64
     requires index { i ≤ 16 }
@@ -168,6 +171,9 @@ fn rounded(z: i128) -> i32
 /// A second-order Bessel low-pass filter, rav1e's `IIRBessel2`: it follows a value with a delay that is given in inputs.
 ///
 /// Its coefficients are in Q24. Inputs and answers are numbers of any one scale.
+///
+/// Two things differ from rav1e. A product in the frequency of a delay is formed wide enough, where rav1e's wraps at 16 bits: so the
+/// coefficients of the delays 3 and 5 to 6442 are others. And `update` clamps an answer that does not fit.
 #[derive(Clone, Copy, Debug, PartialEq, Eq)]
 pub struct IIRBessel2 {
     c0: i32,
@@ -182,11 +188,35 @@ pub struct IIRBessel2 {
 impl Model for IIRBessel2 {
     ghost Value = { Follower };
 
-    ghost view = { λ s. record { c0 = s.c0; c1 = s.c1; g = s.g; x0 = s.x0; x1 = s.x1; y0 = s.y0; y1 = s.y1 } };
+    ghost view = { λ s. record {
+      c0 = s.c0;
+      c1 = s.c1;
+      g = s.g;
+      x0 = s.x0;
+      x1 = s.x1;
+      y0 = s.y0;
+      y1 = s.y1;
+    } };
 
-    ghost invariant = { λ s. FitsTypes (record { c0 = s.c0; c1 = s.c1; g = s.g; x0 = s.x0; x1 = s.x1; y0 = s.y0; y1 = s.y1 }) };
+    ghost invariant = { λ s. FitsTypes (record {
+      c0 = s.c0;
+      c1 = s.c1;
+      g = s.g;
+      x0 = s.x0;
+      x1 = s.x1;
+      y0 = s.y0;
+      y1 = s.y1;
+    }) };
 
-    ghost inverse = { λ f. record { c0 = f.c0; c1 = f.c1; g = f.g; x0 = f.x0; x1 = f.x1; y0 = f.y0; y1 = f.y1 } };
+    ghost inverse = { λ f. record {
+      c0 = f.c0;
+      c1 = f.c1;
+      g = f.g;
+      x0 = f.x0;
+      x1 = f.x1;
+      y0 = f.y0;
+      y1 = f.y1;
+    } };
 }
 
 impl IIRBessel2 {
@@ -235,7 +265,7 @@ impl IIRBessel2 {
         self.y1 = value;
     }
 
-    /// Takes an input, and gives the answer to it, or the nearest `i32`.
+    /// Takes an input, and gives the answer to it, or the nearest `i32` where it does not fit; rav1e keeps the low 32 bits there.
     pub fn update(&mut self, x: i32) -> i32
         ensures state { self.new ≡ updated x self.old }
         ensures answer { result ≡ filtered x self.old }
@@ -259,7 +289,7 @@ impl IIRBessel2 {
     fn answer(&self, x: i32) -> i32
         ensures { result ≡ filtered x self.now }
     {
-        nearest(self.weighted_sum(x) >> 24)
+        saturated_32(self.weighted_sum(x) >> 24)
     }
 
     /// What the answer to `x` is made of, of scale 2^24.
@@ -272,19 +302,6 @@ impl IIRBessel2 {
             fed_back(self.y0, self.c0),
             fed_back(self.y1, self.c1),
         )
-    }
-}
-
-/// The nearest `i32`.
-fn nearest(value: i128) -> i32
-    ensures { result ≡ saturate_signed w32 value }
-{
-    if value < i32::MIN as i128 {
-        i32::MIN
-    } else if value > i32::MAX as i128 {
-        i32::MAX
-    } else {
-        value as i32
     }
 }
 
@@ -332,7 +349,7 @@ fn sum(a: i128, b: i128, c: i128) -> i128
 mod tests {
     use super::*;
 
-    // Sample coefficients of the original code.
+    // Sample coefficients of the original's filter, with the frequency widened.
     const SAMPLES: [(i32, i32, i32, i32); 6] = [
         (3, -17_662_031, -5_302_395, 9_935_410),
         (4, -9_586_981, -2_396_745, 7_190_235),

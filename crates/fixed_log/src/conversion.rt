@@ -4,19 +4,7 @@ ghost use Rattle.fixed_log.specs.Exponential.{bexp64 as bexp64_of};
 ghost use Rattle.fixed_log.specs.Conversion.{q57 as q57_of, q57_to_q24 as q57_to_q24_of, q24_to_q57 as q24_to_q57_of, bexp_q24 as bexp_q24_of};
 
 use crate::exponential::bexp64;
-
-/// The nearest `i64`.
-pub fn saturated(value: i128) -> i64
-    ensures { result ≡ saturate_signed w64 value }
-{
-    if value < i64::MIN as i128 {
-        i64::MIN
-    } else if value > i64::MAX as i128 {
-        i64::MAX
-    } else {
-        value as i64
-    }
-}
+use crate::wide::saturated;
 
 /// `v`, from -64 to 63, in Q57: `v * 2^57`.
 pub fn q57(v: i32) -> i64
@@ -57,7 +45,8 @@ fn log_in_q57(log_scale: i32) -> i64
 fn bounded_exp(log_scale: i32) -> i64
     requires low { negsuc (64 * 2 ^ 24 - 1) ≤ℤ log_scale }
     requires high { log_scale <ℤ pos (23 * 2 ^ 24) }
-    ensures value { result ≡ int_min (bexp64_of (log_scale *ℤ pos (2 ^ 33) +ℤ q57_of (pos 24))) (pos (2 ^ 47 - 1)) }
+    ensures value { result
+        ≡ int_min (bexp64_of (log_scale *ℤ pos (2 ^ 33) +ℤ q57_of (pos 24))) (pos (2 ^ 47 - 1)) }
     ensures not_negative { pos 0 ≤ℤ result }
     ensures most { result ≤ℤ pos (2 ^ 47 - 1) }
 {

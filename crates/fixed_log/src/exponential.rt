@@ -1,10 +1,11 @@
 ghost use Rattle.std.specs.Prelude.{◌≡◌, ℕ, ◌+◌, ◌<◌, ◌≤◌, ◌-◌, ◌*◌, ◌^◌, pos, negsuc, ◌≤ℤ◌, ◌<ℤ◌};
 ghost use Rattle.std.specs.Int.{saturate_signed, w64};
 ghost use Rattle.fixed_log.specs.Table.{turns_from};
-ghost use Rattle.fixed_log.specs.Exponential.{turned, doubled, exp_turn, doubling_turn, exp_runs, low_turn, doubling_low_turn, low_runs, low_bits, mantissa as mantissa_of, scaled as scaled_of, bexp64 as bexp64_of, IsSmall, IsStart, HasLittleLeft};
+ghost use Rattle.fixed_log.specs.Exponential.{ExpState, turned, doubled, exp_turn, doubling_turn, exp_runs, low_turn, doubling_low_turn, low_runs, low_bits, mantissa as mantissa_of, scaled as scaled_of, bexp64 as bexp64_of, IsSmall, IsStart, HasLittleLeft};
 
-use crate::conversion::saturated;
 use crate::table::{angle, step};
+use crate::wide::saturated;
+use std::marker::Model;
 
 /// `2^61` over the product of `sqrt(1 - 4^-(i + 1))` over all turns, but for 8 in the last place.
 const START: i64 = 0x26A3_D0E4_01DD_846D;
@@ -14,6 +15,14 @@ const START: i64 = 0x26A3_D0E4_01DD_846D;
 struct Exponential {
     value: i64,
     left: i64,
+}
+
+impl Model for Exponential {
+    ghost Value = { ExpState };
+
+    ghost view = { λ s. record { value = s.value; left = s.left } };
+
+    ghost inverse = { λ s. record { value = s.value; left = s.left } };
 }
 
 /// One turn: the value gains, and what is left falls by the angle; where that is negative, both go back.
@@ -55,7 +64,8 @@ fn value_turn(state: Exponential, i: usize) -> Exponential
 #[inline(always)]
 fn value_turns(state: Exponential, first: usize, count: usize) -> Exponential
     requires indices { first + count ≤ 62 }
-    requires small { (k : ℕ) → k < count → IsSmall 62 (exp_turn (first + k) (turns_from doubling_turn first k state)) }
+    requires small { (k : ℕ) → k < count
+        → IsSmall 62 (exp_turn (first + k) (turns_from doubling_turn first k state)) }
     ensures { result ≡ turns_from doubling_turn first count state }
 {
     let mut state = state;
@@ -93,7 +103,9 @@ fn one_low_turn(high: i64, state: Exponential, i: usize) -> Exponential
 #[inline(always)]
 fn low_turns(high: i64, state: Exponential, first: usize, count: usize) -> Exponential
     requires indices { first + count ≤ 62 }
-    requires small { (k : ℕ) → k < count → IsSmall 62 (low_turn high (first + k) (turns_from (doubling_low_turn high) first k state)) }
+    requires small { (k : ℕ) → k < count
+        → IsSmall 62
+        (low_turn high (first + k) (turns_from (doubling_low_turn high) first k state)) }
     ensures { result ≡ turns_from (doubling_low_turn high) first count state }
 {
     let mut state = state;

@@ -1,8 +1,9 @@
 ghost use Rattle.std.specs.Prelude.{◌≡◌, ℕ, ◌+◌, ◌-◌, ◌*◌, ◌<◌, ◌≤◌, ◌^◌, pos, negsuc, ◌+ℤ◌, ◌≤ℤ◌, ◌<ℤ◌, unsigned_abs};
 ghost use Rattle.fixed_log.specs.Table.{turns_from};
-ghost use Rattle.fixed_log.specs.Logarithm.{log_turn, log64_runs, log32_runs, log_start, highest_bit as highest_bit_of, aligned as aligned_of, fraction_64 as fraction_64_of, fraction_32 as fraction_32_of, positive_log64 as positive_log64_of, positive_log32 as positive_log32_of, blog64 as blog64_of, blog32 as blog32_of, IsFit, IsLogStart};
+ghost use Rattle.fixed_log.specs.Logarithm.{LogState, log_turn, log64_runs, log32_runs, log_start, highest_bit as highest_bit_of, aligned as aligned_of, fraction_64 as fraction_64_of, fraction_32 as fraction_32_of, positive_log64 as positive_log64_of, positive_log32 as positive_log32_of, blog64 as blog64_of, blog32 as blog32_of, IsFit, IsLogStart};
 
 use crate::table::{angle, step_shifted};
+use std::marker::Model;
 
 /// One, of scale 2^61.
 const ONE: u64 = 1 << 61;
@@ -13,6 +14,14 @@ struct Logarithm {
     cosh: i64,
     sinh: i64,
     log: i64,
+}
+
+impl Model for Logarithm {
+    ghost Value = { LogState };
+
+    ghost view = { λ s. record { cosh = s.cosh; sinh = s.sinh; log = s.log } };
+
+    ghost inverse = { λ s. record { cosh = s.cosh; sinh = s.sinh; log = s.log } };
 }
 
 /// Turn `i`: a rotation that takes `sinh` towards 0.
@@ -33,9 +42,10 @@ fn one_turn(state: Logarithm, i: usize) -> Logarithm
 /// The turns `first`, `first + 1`, .., `count` of them.
 #[tactic(auto, using(crate::proofs::Turns::run_steps))]
 #[inline(always)]
-fn turns(state: Logarithm, first: usize, count: usize) -> Logarithm
+fn few_turns(state: Logarithm, first: usize, count: usize) -> Logarithm
     requires indices { first + count ≤ 62 }
-    requires fit { (k : ℕ) → k < count → IsFit (log_turn (first + k) (turns_from log_turn first k state)) }
+    requires fit { (k : ℕ) → k < count
+        → IsFit (log_turn (first + k) (turns_from log_turn first k state)) }
     ensures { result ≡ turns_from log_turn first count state }
 {
     let mut state = state;
@@ -43,6 +53,19 @@ fn turns(state: Logarithm, first: usize, count: usize) -> Logarithm
         state = one_turn(state, first + k);
     }
     state
+}
+
+/// The same in two halves, which are short enough for the compiler to unroll: the shifts and angles are then constants.
+#[inline(always)]
+fn turns(state: Logarithm, first: usize, count: usize) -> Logarithm
+    requires indices { first + count ≤ 62 }
+    requires fit { (k : ℕ) → k < count
+        → IsFit (log_turn (first + k) (turns_from log_turn first k state)) }
+    ensures { result ≡ turns_from log_turn first count state }
+{
+    let half = count / 2;
+    let state = few_turns(state, first, half);
+    few_turns(state, first + half, count - half)
 }
 
 /// Turns 0 to 3, 3 to 12, 12 to 39 and 39 to 61.
@@ -135,6 +158,8 @@ fn positive_log64(n: u64) -> i64
     requires positive { 0 < n }
     requires signed { n < 2 ^ 63 }
     ensures value { result ≡ positive_log64_of n }
+    ensures least { 2 ^ highest_bit_of n ≤ n }
+    ensures most { n < 2 ^ (highest_bit_of n + 1) }
     ensures low { pos (highest_bit_of n * 2 ^ 57) ≤ℤ (result +ℤ pos (2 ^ 59)) }
     ensures high { result ≤ℤ pos (highest_bit_of n * 2 ^ 57 + 2 ^ 59) }
 {
@@ -168,9 +193,14 @@ fn positive_log32(n: u64) -> i32
 pub fn blog64(n: i64) -> i64
     ensures value { result ≡ blog64_of n }
 
-    // The logarithm of a positive number lies near that of its highest bit.
-    ensures low { pos 0 <ℤ n → pos (highest_bit_of (unsigned_abs n) * 2 ^ 57) ≤ℤ (result +ℤ pos (2 ^ 59)) }
-    ensures high { pos 0 <ℤ n → result ≤ℤ pos (highest_bit_of (unsigned_abs n) * 2 ^ 57 + 2 ^ 59) }
+    // The place k of a positive number's highest set bit is the whole part of its logarithm:
+    // 2^k ≤ n < 2^(k + 1), and the answer lies within 2^59 of k in Q57.
+    ensures least { pos 0 <ℤ n → pos (2 ^ highest_bit_of (unsigned_abs n)) ≤ℤ n }
+    ensures most { pos 0 <ℤ n → n <ℤ pos (2 ^ (highest_bit_of (unsigned_abs n) + 1)) }
+    ensures low { pos 0 <ℤ n
+        → pos (highest_bit_of (unsigned_abs n) * 2 ^ 57) ≤ℤ (result +ℤ pos (2 ^ 59)) }
+    ensures high { pos 0 <ℤ n
+        → result ≤ℤ pos (highest_bit_of (unsigned_abs n) * 2 ^ 57 + 2 ^ 59) }
 
     // That of a power of two is exact.
     ensures powers { (k : ℕ) → k < 63 → n ≡ pos (2 ^ k) → result ≡ pos (k * 2 ^ 57) }

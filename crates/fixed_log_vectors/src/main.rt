@@ -1,4 +1,8 @@
-//! Compares the sample answers of the original code, in `fixed_log.txt`, with this crate's, and prints how many agree.
+//! Compares the 579 sample answers of `fixed_log.txt` with this crate's, and prints how many agree.
+//!
+//! 453 of them, those of the eight functions, are the original's own. The 126 of the filter (`follower`, `reinit`, `update`) are those of
+//! the original's filter with its frequency widened: the original forms a product of the frequency in 16 bits, so its own coefficients
+//! differ at the delays 3 and 5 to 6442.
 #![tactic(auto)]
 
 ghost use Rattle.std.specs.Prelude.{◌^◌, pos, ◌≤ℤ◌, IfSome};
@@ -26,21 +30,74 @@ fn narrow(number: i64) -> i32 {
     i32::try_from(number).unwrap_or(0)
 }
 
-/// Whether a filter has these coefficients, as its answers to inputs that cancel each other show.
-fn has_coefficients(filter: &IIRBessel2, c0: i32, c1: i32, g: i32) -> bool {
-    let one = 1 << 24;
+/// The coefficients of a filter, in Q24.
+#[derive(Clone, Copy)]
+struct Coefficients {
+    c0: i32,
+    c1: i32,
+    g: i32,
+}
+
+impl Coefficients {
+    fn new(c0: i64, c1: i64, g: i64) -> Coefficients {
+        Coefficients {
+            c0: narrow(c0),
+            c1: narrow(c1),
+            g: narrow(g),
+        }
+    }
+
+    /// The same, but for one in the last place of `c0` and of `c1`, which leaves their sum.
+    fn moved(self) -> Coefficients {
+        Coefficients {
+            c0: self.c0.saturating_add(1),
+            c1: self.c1.saturating_sub(1),
+            g: self.g,
+        }
+    }
+}
+
+const ONE: i32 = 1 << 24;
+
+/// Whether a filter has this gain and this sum of `c0` and `c1`, as its answers to an input after none, and to inputs that cancel, show.
+fn has_gain_and_sum(filter: &IIRBessel2, want: Coefficients) -> bool {
     let mut probe = *filter;
     probe.set(0);
-    let has_gain = probe.update(one) == g;
-    probe.set(one);
-    let sum = probe.update(-3 * one);
-    let has_sum = i64::from(sum) == i64::from(c0) + i64::from(c1);
-    let last = probe.update(5 * one);
-    let fed_back = i64::from(sum)
-        .saturating_mul(i64::from(c0))
-        .saturating_add(i64::from(one).saturating_mul(i64::from(c1)));
-    let want = fed_back.saturating_add(1 << 23) >> 24;
-    has_gain && has_sum && i64::from(last) == want
+    let has_gain = probe.update(ONE) == want.g;
+    probe.set(ONE);
+    let sum = i64::from(want.c0) + i64::from(want.c1);
+    has_gain && i64::from(probe.update(-3 * ONE)) == sum
+}
+
+/// Whether `c0` is what a filter of this delay feeds its last answer back with.
+///
+/// At a long delay the sum of `c0` and `c1` is nearly 1, and answers hardly change: only a great last answer after none tells `c0` from
+/// `c1`. So a filter of the least delay answers first.
+fn feeds_back(delay: i32, c0: i32) -> bool
+    requires low { pos 3 ≤ℤ delay }
+    requires high { delay ≤ℤ pos (2 ^ 24) }
+{
+    let mut probe = IIRBessel2::new(3, 0);
+    let last = probe.update(4 * ONE);
+    probe.reinit(delay);
+    let answer = probe.update(-8 * ONE);
+    let fed_back = i64::from(last).saturating_mul(i64::from(c0));
+    i64::from(answer) == fed_back.saturating_add(1 << 23) >> 24
+}
+
+fn has_coefficients(filter: &IIRBessel2, delay: i32, want: Coefficients) -> bool
+    requires low { pos 3 ≤ℤ delay }
+    requires high { delay ≤ℤ pos (2 ^ 24) }
+{
+    has_gain_and_sum(filter, want) && feeds_back(delay, want.c0)
+}
+
+/// Whether a filter of this delay has these coefficients, and not those with a little moved from `c1` to `c0`.
+fn has_just_coefficients(filter: &IIRBessel2, delay: i32, want: Coefficients) -> bool
+    requires low { pos 3 ≤ℤ delay }
+    requires high { delay ≤ℤ pos (2 ^ 24) }
+{
+    has_coefficients(filter, delay, want) && !has_coefficients(filter, delay, want.moved())
 }
 
 /// A delay within the filter's limits.
@@ -82,14 +139,14 @@ fn filter_agrees(filter: &mut IIRBessel2, name: &str, numbers: &[i64]) -> bool {
         ("follower", [delay, value, c0, c1, g]) => match delay_of(*delay) {
             Some(delay) => {
                 *filter = IIRBessel2::new(delay, narrow(*value));
-                has_coefficients(filter, narrow(*c0), narrow(*c1), narrow(*g))
+                has_just_coefficients(filter, delay, Coefficients::new(*c0, *c1, *g))
             }
             None => false,
         },
         ("reinit", [delay, c0, c1, g]) => match delay_of(*delay) {
             Some(delay) => {
                 filter.reinit(delay);
-                has_coefficients(filter, narrow(*c0), narrow(*c1), narrow(*g))
+                has_just_coefficients(filter, delay, Coefficients::new(*c0, *c1, *g))
             }
             None => false,
         },

@@ -37,7 +37,7 @@ pub counts-key : (bytes : List ℕ) → slice_index_or (counts_at bytes) 0 (pos 
 unfolding counts_at
 counts-key bytes = refl
 
-either_false : (a b : Bool) → (a || b) ≡ false → (a ≡ false) × (b ≡ false)
+pub either_false : (a b : Bool) → (a || b) ≡ false → (a ≡ false) × (b ≡ false)
 either_false true b h = absurd (true≢false h)
 either_false false b h = (refl, h)
 
@@ -52,7 +52,6 @@ sum_not_negative a (x ∷ xs) h e =
     sum_not_negative (a +ℤ x) xs (omega (arith, ints)) both.1
 
 pub frame_total-not_negative : (counts : List ℤ) → any_negative counts ≡ false → pos 0 ≤ℤ frame_total counts
-unfolding any_negative frame_total
 frame_total-not_negative counts h = sum_not_negative (pos 0) counts (omega (arith, ints)) h
 
 -- what does not fit an `i32` and is not negative is too large for it

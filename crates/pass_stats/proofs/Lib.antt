@@ -1,5 +1,6 @@
 pub mod Causes
 pub mod CollectedFacts
+pub mod Entries
 pub mod MetricFacts
 pub mod Spelling
 pub mod SummaryFacts

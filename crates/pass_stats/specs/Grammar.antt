@@ -4,15 +4,15 @@ use Rattle.std.specs.Int.{is_negative}
 use Rattle.std.specs.List.{list_any}
 
 -- some number of the list is below 0
-unfoldable pub any_negative : List ℤ → Bool
+abbrev pub any_negative : List ℤ → Bool
 any_negative xs = list_any is_negative xs
 
 -- some byte of the list is 0
-unfoldable pub any_zero : List ℕ → Bool
+abbrev pub any_zero : List ℕ → Bool
 any_zero xs = list_any (λ b. b == 0) xs
 
 -- the frames of all subtypes together
-unfoldable pub frame_total : List ℤ → ℤ
+abbrev pub frame_total : List ℤ → ℤ
 frame_total counts = fold ◌+ℤ◌ (pos 0) counts
 
 -- the first count is that of key frames

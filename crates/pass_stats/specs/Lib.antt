@@ -3,4 +3,3 @@ pub mod Collected
 pub mod Grammar
 pub mod Metric
 pub mod Summary
-pub mod Texts

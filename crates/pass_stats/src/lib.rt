@@ -16,7 +16,7 @@
 //! | 0 to 3, bit 31 | the frame is shown | any |
 //! | 4 to 7 | logarithm of the scale in Q24, i32 | any |
 //!
-//! Nothing here takes memory.
+//! Nothing here takes memory. Of the lemmas in `proofs/`, callers may name those of `Entries`.
 #![tactic(auto)]
 
 mod bytes;

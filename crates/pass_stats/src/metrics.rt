@@ -32,7 +32,8 @@ pub struct RCFrameMetrics {
 pub fn parse_metrics(bytes: &[u8; 8]) -> Result<RCFrameMetrics, InvalidFrameType>
     ensures accepted { (m : RCFrameMetrics) → (result ≡ Ok m) ↔ Metric bytes.now m }
     ensures refused { (value : ℕ)
-        → (result ≡ Err (record { value = value })) ↔ ((value ≡ subtype_at bytes.now) × (4 < value)) }
+        → (result ≡ Err (record { value = value }))
+        ↔ ((value ≡ subtype_at bytes.now) × (4 < value)) }
 {
     let word = read_u32(bytes, 0);
     let value = word % SHOW_FLAG;

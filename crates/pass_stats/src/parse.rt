@@ -18,7 +18,8 @@ use crate::{RCSummary, RateControlError, Why};
 pub fn parse_summary(bytes: &[u8]) -> Result<RCSummary, RateControlError>
     ensures accepted { (s : RCSummary) → (result ≡ Ok s) ↔ Summary (take 68 bytes.now) s }
     ensures refused { (why : Why)
-        → (result ≡ Err (RateControlError.CorruptedSummary why)) ↔ (first_met bytes.now ≡ Some why) }
+        → (result ≡ Err (RateControlError.CorruptedSummary why))
+        ↔ (first_met bytes.now ≡ Some why) }
     ensures never_version { (v : ℤ) → result ≢ Err (RateControlError.InvalidVersion v) }
 {
     match read_summary(bytes) {
@@ -110,28 +111,24 @@ fn read_sums(bytes: &[u8]) -> [i64; 4]
     ]
 }
 
-#[tactic(auto, unfolding(crate::specs::Grammar::any_negative))]
 fn has_negative_count(counts: &[i32; 5]) -> bool
     ensures { result ≡ any_negative counts.now }
 {
     counts.iter().any(|&count| count < 0)
 }
 
-#[tactic(auto, unfolding(crate::specs::Grammar::any_negative))]
 fn has_negative_sum(sums: &[i64; 4]) -> bool
     ensures { result ≡ any_negative sums.now }
 {
     sums.iter().any(|&sum| sum < 0)
 }
 
-#[tactic(auto, unfolding(crate::specs::Grammar::any_zero))]
 fn has_zero(exponents: &[u8; 4]) -> bool
     ensures { result ≡ any_zero exponents.now }
 {
     exponents.iter().any(|&exponent| exponent == 0)
 }
 
-#[tactic(auto, unfolding(crate::specs::Grammar::frame_total))]
 fn count_frames(counts: &[i32; 5]) -> i64
     ensures { result ≡ frame_total counts.now }
 {

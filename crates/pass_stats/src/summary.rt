@@ -13,6 +13,12 @@ pub(crate) const MAGIC: u32 = 0x5032_4156;
 pub(crate) const VERSION: u32 = 1;
 
 /// What a first pass says of the whole stream. Every value is one that a summary may hold.
+///
+/// It can be built by its fields where they are known to be such values, as those of a literal: the
+/// words of `grammar` are abbreviations, which the check computes. An exponent may be changed to one
+/// above 0, and a sum of scales to one that is not negative, in a function with the attribute
+/// `#[tactic(auto, using(pass_stats::proofs::Entries::one_entry))]`. Values that are not known to be in
+/// the grammar are tried by `parse_summary(write_summary(..).as_slice())`.
 #[derive(Debug, Drop)]
 pub struct RCSummary {
     /// Temporal units, at least 1 and at most `total`.

@@ -1,9 +1,9 @@
-ghost use Rattle.std.specs.Prelude.{◌+◌, ◌≤◌, length};
+ghost use Rattle.std.specs.Prelude.{◌+◌, ◌<◌, ◌≤◌, length, pos, ◌≤ℤ◌};
 
 use crate::laws::{metrics_again, summary_again};
 use crate::{
-    InvalidFrameType, RCDeserialize, RCFrameMetrics, RateControlError, Why, parse_metrics,
-    parse_summary, write_metrics, write_placeholder, write_summary,
+    InvalidFrameType, RCDeserialize, RCFrameMetrics, RCSummary, RateControlError, Why,
+    parse_metrics, parse_summary, write_metrics, write_placeholder, write_summary,
 };
 use std::process::Abort;
 use std::test::Fail;
@@ -123,4 +123,47 @@ fn bytes_in_pieces(rt: HostRuntime) {
     assert_eq!(rt; held.held(), 0);
     assert_eq!(rt; held.fill(&SUMMARY, 8), 8);
     assert_eq!(rt; held.as_slice(), &SUMMARY[..8]);
+}
+
+/// A summary of one key frame, built by its fields.
+fn one_key_frame() -> RCSummary {
+    RCSummary {
+        ntus: 1,
+        nframes: [1, 0, 0, 0, 0],
+        exp: [1, 69, 84, 87],
+        scale_sum: [0; 4],
+        total: 1,
+    }
+}
+
+/// A summary with another exponent and another sum of scales for one subtype.
+#[tactic(auto, using(crate::proofs::Entries::one_entry))]
+fn changed(summary: RCSummary, subtype: usize, exponent: u8, sum: i64) -> RCSummary
+    requires subtype { subtype < 4 }
+    requires exponent { 0 < exponent }
+    requires sum { pos 0 ≤ℤ sum }
+{
+    let mut summary = summary;
+    summary.exp[subtype] = exponent;
+    summary.scale_sum[subtype] = sum;
+    summary
+}
+
+/// A summary of other counts, which only a check can show to be in the grammar.
+fn checked(summary: &RCSummary, nframes: [i32; 5]) -> Result<RCSummary, RateControlError> {
+    parse_summary(write_summary(summary.ntus, nframes, summary.exp, summary.scale_sum).as_slice())
+}
+
+#[test]
+fn built_from_outside(rt: HostRuntime) -> Result<(), Fail> {
+    let summary = changed(one_key_frame(), 0, 48, 0);
+    let written = write_summary(1, summary.nframes, summary.exp, summary.scale_sum);
+    assert_eq!(rt; written.as_slice(), SUMMARY.as_slice());
+    assert_eq!(rt; checked(&summary, [1, 2, 0, 0, 0])?.total, 3);
+    let error = checked(&summary, [0, 2, 0, 0, 0]).err();
+    assert_eq!(rt;
+        error,
+        Some(RateControlError::CorruptedSummary(Why::NoKeyFrame))
+    );
+    Ok(())
 }
