@@ -1,4 +1,5 @@
 pub mod CheckLemmas
-pub mod DefaultLemmas
+pub mod PartitionLemmas
 pub mod PresetLemmas
 pub mod RenderLemmas
+pub mod StatsLemmas

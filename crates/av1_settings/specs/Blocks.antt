@@ -1,8 +1,7 @@
 -- Sizes of blocks.
-use Rattle.std.specs.Prelude.{ℕ}
+use Rattle.std.specs.Prelude.{ℕ, Bool, ◌==◌, ◌&&◌, nat_le}
 use Rattle.av1_settings.specs.declared.block_size.BlockSize.{BlockSize}
 use Rattle.av1_settings.specs.declared.block_size.BlockSize.TheVariants.{BLOCK_4X4, BLOCK_4X8, BLOCK_8X4, BLOCK_8X8, BLOCK_8X16, BLOCK_16X8, BLOCK_16X16, BLOCK_16X32, BLOCK_32X16, BLOCK_32X32, BLOCK_32X64, BLOCK_64X32, BLOCK_64X64, BLOCK_64X128, BLOCK_128X64, BLOCK_128X128, BLOCK_4X16, BLOCK_16X4, BLOCK_8X32, BLOCK_32X8, BLOCK_16X64, BLOCK_64X16}
-use Rattle.av1_settings.specs.declared.block_size.PartitionRange.{PartitionRange}
 
 -- width and height in luma samples
 abbrev pub block_dimensions : BlockSize → ℕ × ℕ
@@ -35,13 +34,11 @@ block_width size = (block_dimensions size).0
 abbrev pub block_height : BlockSize → ℕ
 block_height size = (block_dimensions size).1
 
--- the range from one size to another
-abbrev pub partition_range : BlockSize → BlockSize → PartitionRange
-partition_range smallest largest = record { min = smallest; max = largest }
+-- as wide as high
+abbrev pub is_square : BlockSize → Bool
+is_square size = block_width size == block_height size
 
--- the ends of a range
-abbrev pub smallest_block : PartitionRange → BlockSize
-smallest_block range = range.min
-
-abbrev pub largest_block : PartitionRange → BlockSize
-largest_block range = range.max
+-- two square sizes, the second at least as large
+abbrev pub is_range : BlockSize → BlockSize → Bool
+is_range smallest largest =
+    is_square smallest && (is_square largest && nat_le (block_width smallest) (block_width largest))

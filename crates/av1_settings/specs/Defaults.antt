@@ -1,13 +1,13 @@
 -- Settings where none are given.
-use Rattle.std.specs.Prelude.{ℕ, false, ◌==◌, if◌then◌else◌, pos, None}
+use Rattle.std.specs.Prelude.{ℕ, false, pos, Some, None}
 use Rattle.av1_frame.specs.declared.sampling.ChromaSampling.TheVariants.{Cs420}
 use Rattle.av1_settings.specs.declared.color.ChromaSamplePosition.TheVariants.{Unknown}
 use Rattle.av1_settings.specs.declared.color.PixelRange.TheVariants.{Limited}
 use Rattle.av1_settings.specs.declared.config.Config.{Config}
 use Rattle.av1_settings.specs.declared.encoder.EncoderConfig.{EncoderConfig}
 use Rattle.av1_settings.specs.declared.rate_control.RateControlConfig.{RateControlConfig}
+use Rattle.pass_stats.specs.declared.summary.RCSummary.{RCSummary}
 use Rattle.av1_settings.specs.declared.tune.Tune.TheVariants.{Psychovisual}
-use Rattle.av1_settings.specs.Checks.{max_interval}
 use Rattle.av1_settings.specs.Presets.{from_preset}
 
 -- the settings of an encoder for a speed preset
@@ -28,9 +28,11 @@ with_speed_preset speed = record {
   enable_timing_info = false;
   still_picture = false;
   error_resilient = false;
+  switch_frame_interval = 0;
   min_key_frame_interval = 12;
   max_key_frame_interval = 240;
   reservoir_frame_delay = None;
+  low_latency = false;
   quantizer = 100;
   min_quantizer = 0;
   bitrate = pos 0;
@@ -45,20 +47,13 @@ with_speed_preset speed = record {
 abbrev pub default_encoder : EncoderConfig
 default_encoder = with_speed_preset 6
 
--- no pass data
+-- no pass data and no summary
 abbrev pub default_rate_control : RateControlConfig
-default_rate_control = record { emit_data = false }
+default_rate_control = record { emit_data = false; summary = None }
+
+-- a second pass with what the first one said
+abbrev pub second_pass : RCSummary → RateControlConfig
+second_pass summary = record default_rate_control { summary = Some summary }
 
 abbrev pub default_config : Config
 default_config = record { enc = default_encoder; rate_control = default_rate_control; threads = 0; slots = 0 }
-
--- the interval that a number stands for: 0 for the greatest that there is
-abbrev pub interval_of : ℕ → ℕ
-interval_of interval = if interval == 0 then max_interval else interval
-
--- these settings with other key frame intervals
-abbrev pub with_key_frame_interval : EncoderConfig → ℕ → ℕ → EncoderConfig
-with_key_frame_interval enc least greatest = record enc {
-  min_key_frame_interval = least;
-  max_key_frame_interval = interval_of greatest;
-}

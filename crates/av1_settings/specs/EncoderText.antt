@@ -1,21 +1,14 @@
 -- The line that the settings of an encoder print: pairs of a name and a value, with a blank between them.
-use Rattle.std.specs.Prelude.{ℕ, Bool, false, not, ◌||◌, if◌then◌else◌, List, [], ◌∷◌, ◌++◌, drop, codes, decimal}
+use Rattle.std.specs.Prelude.{ℕ, Bool, if◌then◌else◌, List, [], ◌∷◌, ◌++◌, drop, codes, decimal}
 use Rattle.std.specs.Fmt.{signed_decimal}
-use Rattle.av1_settings.specs.Blocks.{smallest_block, largest_block}
+use Rattle.av1_settings.specs.Partitions.{smallest_block, largest_block}
+use Rattle.av1_settings.specs.Settings.{multiref}
 use Rattle.av1_settings.specs.Texts.{block_size_text, prediction_modes_text, scene_detection_text, tune_text}
 use Rattle.av1_settings.specs.declared.encoder.EncoderConfig.{EncoderConfig}
 use Rattle.av1_settings.specs.declared.speed.SpeedSettings.{SpeedSettings}
 
 abbrev pub bool_text : Bool → List ℕ
 bool_text b = if b then codes "true" else codes "false"
-
--- no frame is coded out of its order; no settings ask for it yet
-abbrev pub low_latency : EncoderConfig → Bool
-low_latency enc = false
-
--- a frame may be predicted from several others: always where frames are coded out of their order
-abbrev pub multiref : EncoderConfig → Bool
-multiref enc = not (low_latency enc) || enc.speed_settings.multiref
 
 -- a name and its value
 abbrev pub Pair : Type 0
@@ -32,7 +25,7 @@ rate_pairs enc =
 
 abbrev pub frame_pairs : EncoderConfig → List Pair
 frame_pairs enc =
-    (codes "low_latency", bool_text (low_latency enc))
+    (codes "low_latency", bool_text enc.low_latency)
     ∷ (codes "tune", tune_text enc.tune)
     ∷ (codes "rdo_lookahead_frames", decimal enc.speed_settings.rdo_lookahead_frames)
     ∷ (codes "multiref", bool_text (multiref enc))

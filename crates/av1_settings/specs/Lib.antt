@@ -1,12 +1,15 @@
 pub mod Blocks
 pub mod Checks
+pub mod Colors
 pub mod Defaults
 pub mod EncoderText
 pub mod FrameTypes
 pub mod Header
 pub mod Invalid
 pub mod Levels
+pub mod Partitions
 pub mod Presets
 pub mod Render
 pub mod Settings
+pub mod Stats
 pub mod Texts

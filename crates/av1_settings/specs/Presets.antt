@@ -1,6 +1,6 @@
 -- The speed presets, from 0, the slowest, to 10.
-use Rattle.std.specs.Prelude.{ℕ, ◌-◌, true, false, List, [], ◌∷◌, take, drop}
-use Rattle.av1_settings.specs.Blocks.{partition_range}
+use Rattle.std.specs.Prelude.{ℕ, ◌-◌, true, false, List, [], ◌∷◌, take, drop, refl}
+use Rattle.av1_settings.specs.Partitions.{partition_range}
 use Rattle.av1_settings.specs.declared.block_size.BlockSize.TheVariants.{BLOCK_4X4, BLOCK_8X8, BLOCK_16X16, BLOCK_32X32, BLOCK_64X64}
 use Rattle.av1_settings.specs.declared.speed.SpeedSettings.{SpeedSettings}
 use Rattle.av1_settings.specs.declared.speed.PredictionModesSetting.TheVariants as modes
@@ -23,7 +23,7 @@ slowest = record {
   partition = record {
     encode_bottomup = true;
     non_square_partition_max_threshold = BLOCK_64X64;
-    partition_range = partition_range BLOCK_4X4 BLOCK_64X64;
+    partition_range = partition_range BLOCK_4X4 BLOCK_64X64 refl;
   };
   transform = record {
     reduced_tx_set = false;
@@ -49,7 +49,7 @@ preset_changes =
     -- 3
     ∷ (λ s. record s {
       rdo_lookahead_frames = 30;
-      partition = record s.partition { partition_range = partition_range BLOCK_8X8 BLOCK_64X64 };
+      partition = record s.partition { partition_range = partition_range BLOCK_8X8 BLOCK_64X64 refl };
     })
     -- 4
     ∷ (λ s. record s { partition = record s.partition { encode_bottomup = false } })
@@ -71,13 +71,13 @@ preset_changes =
     ∷ (λ s. record s { rdo_lookahead_frames = 10; lrf = false })
     -- 9
     ∷ (λ s. record s {
-      partition = record s.partition { partition_range = partition_range BLOCK_16X16 BLOCK_32X32 };
+      partition = record s.partition { partition_range = partition_range BLOCK_16X16 BLOCK_32X32 refl };
       transform = record s.transform { enable_inter_tx_split = true };
     })
     -- 10
     ∷ (λ s. record s {
       scene_detection_mode = scenes.Fast;
-      partition = record s.partition { partition_range = partition_range BLOCK_32X32 BLOCK_32X32 };
+      partition = record s.partition { partition_range = partition_range BLOCK_32X32 BLOCK_32X32 refl };
       motion = record s.motion { use_satd_subpel = false };
     })
     ∷ []

@@ -1,22 +1,22 @@
 -- What follows from an encoder's settings.
-use Rattle.std.specs.Prelude.{Bool, true, false, not, Option, Some, None}
-use Rattle.av1_settings.specs.declared.color.ColorDescription.{ColorDescription}
-use Rattle.av1_settings.specs.declared.color.TransferCharacteristics.{TransferCharacteristics}
-use Rattle.av1_settings.specs.declared.color.TransferCharacteristics.TheVariants.{SMPTE2084}
+use Rattle.std.specs.Prelude.{ℕ, Bool, not, ◌==◌, ◌||◌, if◌then◌else◌}
 use Rattle.av1_settings.specs.declared.encoder.EncoderConfig.{EncoderConfig}
+use Rattle.av1_settings.specs.declared.encoder.TheConstants.{MAX_MAX_KEY_FRAME_INTERVAL}
 
--- the perceptual quantizer of SMPTE ST 2084
-abbrev pub is_perceptual_quantizer : TransferCharacteristics → Bool
-is_perceptual_quantizer SMPTE2084 = true
-is_perceptual_quantizer _ = false
+-- the greatest distance of two key frames that a number stands for: 0 for the greatest that there is
+abbrev pub interval_of : ℕ → ℕ
+interval_of interval = if interval == 0 then MAX_MAX_KEY_FRAME_INTERVAL else interval
 
-abbrev pub has_perceptual_quantizer : Option ColorDescription → Bool
-has_perceptual_quantizer None = false
-has_perceptual_quantizer (Some description) = is_perceptual_quantizer description.transfer_characteristics
+-- these settings with other key frame intervals
+abbrev pub with_key_frame_interval : EncoderConfig → ℕ → ℕ → EncoderConfig
+with_key_frame_interval enc least greatest = record enc {
+  min_key_frame_interval = least;
+  max_key_frame_interval = interval_of greatest;
+}
 
--- the content has a high dynamic range
-abbrev pub is_hdr : EncoderConfig → Bool
-is_hdr enc = has_perceptual_quantizer enc.color_description
+-- a frame may be predicted from several others: always where frames are coded out of their order
+abbrev pub multiref : EncoderConfig → Bool
+multiref enc = not enc.low_latency || enc.speed_settings.multiref
 
 -- distortion isn't measured on coefficients
 abbrev pub temporal_rdo : EncoderConfig → Bool

@@ -1,5 +1,5 @@
-ghost use Rattle.std.specs.Prelude.{◌≡◌, ◌≤◌, ◌==◌};
-ghost use Rattle.av1_settings.specs.Blocks.{block_width, block_height, partition_range, smallest_block, largest_block};
+ghost use Rattle.std.specs.Prelude.{◌≡◌};
+ghost use Rattle.av1_settings.specs.Blocks.{block_width, block_height, is_square};
 
 use std::fmt;
 
@@ -87,7 +87,7 @@ impl BlockSize {
 
     /// Whether the block is as wide as it is high.
     pub fn is_sqr(self) -> bool
-        ensures { result ≡ (block_width self == block_height self) }
+        ensures { result ≡ is_square self }
     {
         self.width() == self.height()
     }
@@ -102,38 +102,5 @@ impl fmt::Display for BlockSize {
     #[tactic(auto, unfolding(crate::specs::Texts::block_size_text))]
     fn fmt<W: fmt::Write>(&self, f: &mut fmt::Formatter<W>) -> fmt::Result {
         write!(f, "{}x{}", self.width(), self.height())
-    }
-}
-
-/// The sizes of the square blocks that are tried.
-#[derive(Clone, Copy, Debug)]
-pub struct PartitionRange {
-    pub(crate) min: BlockSize,
-    pub(crate) max: BlockSize,
-}
-
-impl PartitionRange {
-    /// From the smallest to the largest, both square.
-    pub fn new(min: BlockSize, max: BlockSize) -> PartitionRange
-        requires square_min { block_width min ≡ block_height min }
-        requires square_max { block_width max ≡ block_height max }
-        requires ordered { block_width min ≤ block_width max }
-        ensures { result ≡ partition_range min max }
-    {
-        PartitionRange { min, max }
-    }
-
-    /// The smallest.
-    pub fn min(&self) -> BlockSize
-        ensures { result ≡ smallest_block self.now }
-    {
-        self.min
-    }
-
-    /// The largest.
-    pub fn max(&self) -> BlockSize
-        ensures { result ≡ largest_block self.now }
-    {
-        self.max
     }
 }

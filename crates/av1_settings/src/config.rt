@@ -1,22 +1,14 @@
-ghost use Rattle.std.specs.Prelude.{◌≡◌};
+ghost use Rattle.std.specs.Prelude.{◌≡◌, ◌≤◌, ◌≤ℤ◌, pos, false, IsTrue, OnOk};
 ghost use Rattle.std.specs.Result.{result_err};
-ghost use Rattle.av1_settings.specs.Checks.{refusal_of};
+ghost use Rattle.av1_settings.specs.Checks.{IsValid, asks_passes, pixel_refusal, refusal_of, session_refusal};
 ghost use Rattle.av1_settings.specs.Defaults.{default_config};
 
-use crate::encoder::MAX_MAX_KEY_FRAME_INTERVAL;
-use crate::{EncoderConfig, InvalidConfig, RateControlConfig};
-
-// The least width and height in samples.
-const MIN_SIZE: usize = 16;
-
-// The greatest width and height in samples.
-const MAX_SIZE: usize = 65535;
-
-// The greatest lookahead in coded frames.
-const MAX_LOOKAHEAD: usize = usize::MAX - 1;
+use crate::checks::{check_all, check_pass, check_pixel};
+use crate::{EncoderConfig, InvalidConfig, LevelTables, RateControlConfig};
+use std::alloc::AllocError;
 
 /// The whole configuration of a session.
-#[derive(Clone, Debug, Drop)]
+#[derive(Debug, Drop)]
 pub struct Config {
     /// What to encode, and how.
     pub enc: EncoderConfig,
@@ -73,34 +65,72 @@ impl Config {
         self
     }
 
-    /// Refuses a configuration that can't be encoded, for the first of these that holds: the width or the height isn't 16 to
-    /// 65535, the lookahead isn't 1 to `usize::MAX - 1`, the greatest key frame interval is above 715827882. No memory is taken.
-    #[tactic(auto, unfolding(crate::specs::Checks::refusal_of, crate::specs::Checks::rows_of))]
-    pub fn validate(&self) -> Result<(), InvalidConfig>
-        ensures { result_err result ≡ refusal_of self.now }
+    /// Refuses a configuration that can't be encoded, for the first check that fails. They are, in this order: width and
+    /// height, the aspect ratio and the size that it leads to, lookahead, greatest key frame interval, tiles, time base,
+    /// reservoir delay, switch frame interval, timing information of a still picture, colours, the level and its limits, a
+    /// bitrate where pass data is asked for or a summary given, quantizer, bit depth. The ranges stand at the settings
+    /// themselves. No memory is taken.
+    #[tactic(auto, using(crate::proofs::CheckLemmas::valid_on, crate::proofs::CheckLemmas::bitrate_on))]
+    pub fn validate(&self, levels: &LevelTables) -> Result<(), InvalidConfig>
+        ensures first { result_err result ≡ refusal_of levels.now self.now }
+
+        // what a caller may rely on after Ok
+        ensures valid { OnOk result (IsValid self.now.enc) }
+        ensures bitrate { OnOk result
+            (IsTrue (asks_passes self.now) → pos 1 ≤ℤ self.now.enc.bitrate) }
     {
-        let enc = &self.enc;
-        if enc.width < MIN_SIZE || enc.width > MAX_SIZE {
-            return Err(InvalidConfig::InvalidWidth(enc.width));
-        }
-        if enc.height < MIN_SIZE || enc.height > MAX_SIZE {
-            return Err(InvalidConfig::InvalidHeight(enc.height));
-        }
-        let lookahead = enc.speed_settings.rdo_lookahead_frames;
-        if lookahead < 1 || lookahead > MAX_LOOKAHEAD {
-            return Err(InvalidConfig::InvalidRdoLookaheadFrames {
-                actual: lookahead,
-                max: MAX_LOOKAHEAD,
-                min: 1,
-            });
-        }
-        if enc.max_key_frame_interval > MAX_MAX_KEY_FRAME_INTERVAL {
-            return Err(InvalidConfig::InvalidMaxKeyFrameInterval {
-                actual: enc.max_key_frame_interval,
-                max: MAX_MAX_KEY_FRAME_INTERVAL,
-            });
-        }
-        Ok(())
+        check_all(self, levels)
+    }
+
+    /// The same, and behind it the check of a session whose pixels have this many bits: the bit depth isn't above them.
+    #[tactic(auto, using(crate::proofs::CheckLemmas::first_failing_append), unfolding(crate::specs::Checks::refusal_of, crate::specs::Checks::pixel_refusal))]
+    pub fn validate_for_pixel(&self, levels: &LevelTables, bits: usize) -> Result<(), InvalidConfig>
+        ensures first { result_err result ≡ pixel_refusal bits levels.now self.now }
+
+        // what a caller may rely on after Ok
+        ensures valid { OnOk result (IsValid self.now.enc) }
+        ensures depth { OnOk result (self.now.enc.bit_depth ≤ bits) }
+        ensures bitrate { OnOk result
+            (IsTrue (asks_passes self.now) → pos 1 ≤ℤ self.now.enc.bitrate) }
+    {
+        self.validate(levels)?;
+        check_pixel(&self.enc, bits)
+    }
+
+    /// The same, and before it the check of a session in one pass: no pass data is asked for, and no summary is given.
+    #[tactic(auto, using(crate::proofs::CheckLemmas::first_failing_append), unfolding(crate::specs::Checks::session_refusal, crate::specs::Checks::session_rows, crate::specs::Checks::pixel_refusal))]
+    pub fn validate_for_session(
+        &self,
+        levels: &LevelTables,
+        bits: usize,
+    ) -> Result<(), InvalidConfig>
+        ensures first { result_err result ≡ session_refusal bits levels.now self.now }
+
+        // what a caller may rely on after Ok
+        ensures valid { OnOk result (IsValid self.now.enc) }
+        ensures depth { OnOk result (self.now.enc.bit_depth ≤ bits) }
+        ensures one_pass { OnOk result (asks_passes self.now ≡ false) }
+    {
+        check_pass(self)?;
+        self.validate_for_pixel(levels, bits)
+    }
+}
+
+impl Clone for Config {
+    ghost use Rattle.std.specs.Prelude.{◌≡◌, ⊤};
+
+    ghost is_clone = { λ s t. t ≡ s };
+
+    ghost is_infallible = { λ _. ⊤ };
+
+    /// No memory is taken.
+    fn clone(&self) -> Result<Self, AllocError> {
+        Ok(Config {
+            enc: self.enc,
+            rate_control: self.rate_control.clone()?,
+            threads: self.threads,
+            slots: self.slots,
+        })
     }
 }
 

@@ -1,7 +1,8 @@
-ghost use Rattle.std.specs.Prelude.{◌≡◌, ◌<◌};
-ghost use Rattle.av1_settings.specs.Defaults.{default_encoder, with_key_frame_interval, with_speed_preset};
+ghost use Rattle.std.specs.Prelude.{◌≡◌, ◌<◌, ◌≤◌};
+ghost use Rattle.av1_settings.specs.Colors.{is_hdr};
+ghost use Rattle.av1_settings.specs.Defaults.{default_encoder, with_speed_preset};
 ghost use Rattle.av1_settings.specs.Render.{render_size, scaled};
-ghost use Rattle.av1_settings.specs.Settings.{is_hdr, temporal_rdo};
+ghost use Rattle.av1_settings.specs.Settings.{interval_of, multiref, temporal_rdo, with_key_frame_interval};
 
 use crate::{
     ChromaSamplePosition, ColorDescription, ContentLight, MasteringDisplay, PixelRange, Rational,
@@ -13,17 +14,17 @@ use av1_frame::ChromaSampling;
 pub(crate) const MAX_MAX_KEY_FRAME_INTERVAL: u64 = 715827882;
 
 /// What to encode, and how.
-#[derive(Clone, Debug, Drop)]
+#[derive(Clone, Copy, Debug)]
 pub struct EncoderConfig {
-    /// Width of a frame in samples, 16 to 65535.
+    /// Width of a frame in samples, 16 to 65535; of a still picture, from 1 on.
     pub width: usize,
-    /// Height of a frame in samples, 16 to 65535.
+    /// Height of a frame in samples, 16 to 65535; of a still picture, from 1 on.
     pub height: usize,
-    /// Width over height of a sample as it is to be shown.
+    /// Width over height of a sample as it is to be shown; both parts above 0.
     pub sample_aspect_ratio: Rational,
-    /// The seconds from a frame to the next.
+    /// The seconds from a frame to the next; both parts 1 to 4294967295.
     pub time_base: Rational,
-    /// Bits of a sample.
+    /// Bits of a sample: 8, 10 or 12.
     pub bit_depth: usize,
     /// How chroma is subsampled.
     pub chroma_sampling: ChromaSampling,
@@ -37,7 +38,7 @@ pub struct EncoderConfig {
     pub mastering_display: Option<MasteringDisplay>,
     /// How bright the content is.
     pub content_light: Option<ContentLight>,
-    /// The level that has to be kept to, by its index.
+    /// The level that has to be kept to, by its index, 0 to 30; 31 stands for none.
     pub level_idx: Option<u8>,
     /// Whether the sequence header has timing information.
     pub enable_timing_info: bool,
@@ -45,12 +46,16 @@ pub struct EncoderConfig {
     pub still_picture: bool,
     /// Whether the stream is to bear losses.
     pub error_resilient: bool,
+    /// The distance of two switch frames, in frames; 0 stands for none. Above 0 with `low_latency` alone.
+    pub switch_frame_interval: u64,
     /// The least distance of two key frames, in frames; for the detector alone.
     pub min_key_frame_interval: u64,
     /// The greatest distance of two key frames, in frames; 0 stands for 715827882, the greatest that there is.
     pub max_key_frame_interval: u64,
     /// The frames over which the bit reservoir evens out, 12 to 131072; without one it follows from the intervals.
     pub reservoir_frame_delay: Option<i32>,
+    /// Whether every frame is coded in its order and shown at once.
+    pub low_latency: bool,
     /// The base quantizer index, 0 to 255; with a bitrate, its upper end.
     pub quantizer: usize,
     /// The least quantizer index that a bitrate may lead to.
@@ -63,7 +68,7 @@ pub struct EncoderConfig {
     pub tile_cols: usize,
     /// Rows of tiles: 0 or a power of two.
     pub tile_rows: usize,
-    /// Tiles in all, where rows and columns aren't given.
+    /// Tiles in all; where it isn't 0, it overrides `tile_cols` and `tile_rows`.
     pub tiles: usize,
     /// Speed against quality.
     pub speed_settings: SpeedSettings,
@@ -92,9 +97,11 @@ impl EncoderConfig {
             enable_timing_info: false,
             still_picture: false,
             error_resilient: false,
+            switch_frame_interval: 0,
             min_key_frame_interval: 12,
             max_key_frame_interval: 240,
             reservoir_frame_delay: None,
+            low_latency: false,
             quantizer: 100,
             min_quantizer: 0,
             bitrate: 0,
@@ -111,11 +118,15 @@ impl EncoderConfig {
         ensures { self.new ≡ with_key_frame_interval self.old min_interval max_interval }
     {
         self.min_key_frame_interval = min_interval;
-        self.max_key_frame_interval = if max_interval == 0 {
-            MAX_MAX_KEY_FRAME_INTERVAL
-        } else {
-            max_interval
-        };
+        self.max_key_frame_interval = interval_of(max_interval);
+    }
+
+    /// The greatest distance of two key frames, in frames: `max_key_frame_interval`, where 0 stands for 715827882.
+    pub fn key_frame_interval(&self) -> u64
+        ensures value { result ≡ interval_of self.now.max_key_frame_interval }
+        ensures positive { 1 ≤ result }
+    {
+        interval_of(self.max_key_frame_interval)
     }
 
     /// The width and height that the picture is to be shown at: samples wider than high widen it, others make it higher.
@@ -131,6 +142,14 @@ impl EncoderConfig {
         } else {
             (self.width, scaled(self.height, den, num))
         }
+    }
+
+    /// Whether a frame may be predicted from several others: always where frames are coded out of their order, else by the
+    /// speed setting.
+    pub fn multiref(&self) -> bool
+        ensures { result ≡ multiref self.now }
+    {
+        !self.low_latency || self.speed_settings.multiref
     }
 
     /// Whether distortion is measured on samples, after the inverse transform.
@@ -151,6 +170,18 @@ impl EncoderConfig {
             ),
             None => false,
         }
+    }
+}
+
+// The distance that a number stands for: 0 for the greatest that there is.
+fn interval_of(interval: u64) -> u64
+    ensures value { result ≡ interval_of interval }
+    ensures positive { 1 ≤ result }
+{
+    if interval == 0 {
+        MAX_MAX_KEY_FRAME_INTERVAL
+    } else {
+        interval
     }
 }
 

@@ -22,7 +22,8 @@ impl fmt::Display for EncoderConfig {
 }
 
 fn write_rate<W: fmt::Write>(enc: &EncoderConfig, f: &mut fmt::Formatter<W>) -> fmt::Result
-    ensures { DisplaysOnOk W.write_str_gives f.old result (Some (joined (rate_pairs enc.now))) f.new }
+    ensures { DisplaysOnOk W.write_str_gives f.old result
+        (Some (joined (rate_pairs enc.now))) f.new }
 {
     write!(
         f,
@@ -36,19 +37,20 @@ fn write_rate<W: fmt::Write>(enc: &EncoderConfig, f: &mut fmt::Formatter<W>) -> 
 }
 
 fn write_frames<W: fmt::Write>(enc: &EncoderConfig, f: &mut fmt::Formatter<W>) -> fmt::Result
-    ensures { DisplaysOnOk W.write_str_gives f.old result (Some (spaced (frame_pairs enc.now))) f.new }
+    ensures { DisplaysOnOk W.write_str_gives f.old result
+        (Some (spaced (frame_pairs enc.now))) f.new }
 {
-    let low_latency = false;
-    let multiref = !low_latency || enc.speed_settings.multiref;
+    let multiref = enc.multiref();
     write!(
         f,
         " low_latency={} tune={} rdo_lookahead_frames={} multiref={}",
-        low_latency, enc.tune, enc.speed_settings.rdo_lookahead_frames, multiref
+        enc.low_latency, enc.tune, enc.speed_settings.rdo_lookahead_frames, multiref
     )
 }
 
 fn write_filters<W: fmt::Write>(enc: &EncoderConfig, f: &mut fmt::Formatter<W>) -> fmt::Result
-    ensures { DisplaysOnOk W.write_str_gives f.old result (Some (spaced (filter_pairs enc.now))) f.new }
+    ensures { DisplaysOnOk W.write_str_gives f.old result
+        (Some (spaced (filter_pairs enc.now))) f.new }
 {
     let speed = &enc.speed_settings;
     write!(
@@ -63,7 +65,8 @@ fn write_filters<W: fmt::Write>(enc: &EncoderConfig, f: &mut fmt::Formatter<W>) 
 }
 
 fn write_partition<W: fmt::Write>(speed: &SpeedSettings, f: &mut fmt::Formatter<W>) -> fmt::Result
-    ensures { DisplaysOnOk W.write_str_gives f.old result (Some (spaced (partition_pairs speed.now))) f.new }
+    ensures { DisplaysOnOk W.write_str_gives f.old result
+        (Some (spaced (partition_pairs speed.now))) f.new }
 {
     let partition = &speed.partition;
     write!(
@@ -77,7 +80,8 @@ fn write_partition<W: fmt::Write>(speed: &SpeedSettings, f: &mut fmt::Formatter<
 }
 
 fn write_transform<W: fmt::Write>(speed: &SpeedSettings, f: &mut fmt::Formatter<W>) -> fmt::Result
-    ensures { DisplaysOnOk W.write_str_gives f.old result (Some (spaced (transform_pairs speed.now))) f.new }
+    ensures { DisplaysOnOk W.write_str_gives f.old result
+        (Some (spaced (transform_pairs speed.now))) f.new }
 {
     let transform = &speed.transform;
     write!(
@@ -91,7 +95,8 @@ fn write_transform<W: fmt::Write>(speed: &SpeedSettings, f: &mut fmt::Formatter<
 }
 
 fn write_prediction<W: fmt::Write>(speed: &SpeedSettings, f: &mut fmt::Formatter<W>) -> fmt::Result
-    ensures { DisplaysOnOk W.write_str_gives f.old result (Some (spaced (prediction_pairs speed.now))) f.new }
+    ensures { DisplaysOnOk W.write_str_gives f.old result
+        (Some (spaced (prediction_pairs speed.now))) f.new }
 {
     write!(
         f,

@@ -1,8 +1,8 @@
 ghost use Rattle.std.specs.Prelude.{◌≡◌};
 ghost use Rattle.av1_settings.specs.Invalid.{number_of};
 
-use std::error::Error;
 use std::fmt;
+use thiserror::Error;
 
 /// An option that a still picture can't have.
 #[derive(Clone, Copy, Debug, PartialEq, Eq)]
@@ -25,21 +25,28 @@ impl fmt::Display for StillOption {
 }
 
 /// Why a configuration is refused.
-#[derive(Clone, Copy, Debug, PartialEq, Eq)]
+#[derive(Clone, Copy, Debug, PartialEq, Eq, Error)]
 pub enum InvalidConfig {
     /// The width in samples.
+    #[error("invalid width {0} (expected >= 16, <= 65535)")]
     InvalidWidth(usize),
     /// The height in samples.
+    #[error("invalid height {0} (expected >= 16, <= 65535)")]
     InvalidHeight(usize),
     /// The numerator of the sample aspect ratio.
+    #[error("invalid aspect ratio numerator {0} (expected > 0)")]
     InvalidAspectRatioNum(usize),
     /// The denominator of the sample aspect ratio.
+    #[error("invalid aspect ratio denominator {0} (expected > 0)")]
     InvalidAspectRatioDen(usize),
     /// The width of the picture as it is to be shown.
+    #[error("invalid render width {0} (expected >= 1, <= 65535")]
     InvalidRenderWidth(usize),
     /// The height of the picture as it is to be shown.
+    #[error("invalid render height {0} (expected >= 1, <= 65535")]
     InvalidRenderHeight(usize),
     /// The lookahead in coded frames.
+    #[error("invalid rdo lookahead frames {actual} (expected <= {max} and >= {min})")]
     InvalidRdoLookaheadFrames {
         /// The lookahead that was given.
         actual: usize,
@@ -49,6 +56,7 @@ pub enum InvalidConfig {
         min: usize,
     },
     /// The greatest distance of two key frames.
+    #[error("invalid max keyframe interval {actual} (expected <= {max})")]
     InvalidMaxKeyFrameInterval {
         /// The distance that was given.
         actual: u64,
@@ -56,10 +64,13 @@ pub enum InvalidConfig {
         max: u64,
     },
     /// The number of tile columns.
+    #[error("invalid tile cols {0} (expected power of 2)")]
     InvalidTileCols(usize),
     /// The number of tile rows.
+    #[error("invalid tile rows {0} (expected power of 2)")]
     InvalidTileRows(usize),
     /// The numerator of the time base.
+    #[error("invalid framerate numerator {actual} (expected > 0, <= {max})")]
     InvalidFrameRateNum {
         /// The numerator that was given.
         actual: u64,
@@ -67,6 +78,7 @@ pub enum InvalidConfig {
         max: u64,
     },
     /// The denominator of the time base.
+    #[error("invalid framerate denominator {actual} (expected > 0, <= {max})")]
     InvalidFrameRateDen {
         /// The denominator that was given.
         actual: u64,
@@ -74,24 +86,34 @@ pub enum InvalidConfig {
         max: u64,
     },
     /// The frames over which the bit reservoir evens out.
+    #[error("invalid reservoir frame delay {0} (expected >= 12, <= 131072)")]
     InvalidReservoirFrameDelay(i32),
     /// The distance of switch frames.
+    #[error("invalid switch frame interval {0} (must only be used with low latency mode)")]
     InvalidSwitchFrameInterval(u64),
     /// An option that a still picture can't have.
+    #[error("invalid option {0} specified with still picture mode")]
     InvalidOptionWithStillPicture(StillOption),
     /// Pass data is asked for or given, and no bitrate is set.
+    #[error("The rate control requires a target bitrate")]
     TargetBitrateNeeded,
     /// Pass data is asked for or given where none can be.
+    #[error("Mismatch in the rate control configuration")]
     RateControlConfigurationMismatch,
     /// The colour description wants the full range and no subsampling.
+    #[error("Mismatch in the color configuration")]
     ColorConfigurationMismatch,
     /// No such level.
+    #[error("Specified level is undefined")]
     LevelUndefined,
     /// Size or rate are beyond the level.
+    #[error("Constraints exceeded for specified level")]
     LevelConstraintsExceeded,
     /// The quantizer index.
+    #[error("invalid quantizer {0}")]
     InvalidQuantizer(usize),
     /// The bits of a sample.
+    #[error("invalid bit depth {0}")]
     InvalidBitDepth(usize),
 }
 
@@ -126,92 +148,3 @@ impl InvalidConfig {
         }
     }
 }
-
-impl fmt::Display for InvalidConfig {
-    ghost use Rattle.std.specs.Prelude.{Some};
-    ghost use Rattle.av1_settings.specs.Invalid.{invalid_text};
-
-    ghost output = { λ invalid. Some (invalid_text invalid) };
-
-    fn fmt<W: fmt::Write>(&self, f: &mut fmt::Formatter<W>) -> fmt::Result {
-        match self {
-            InvalidConfig::InvalidWidth(value) => write!(
-                f,
-                "invalid width {value} (expected >= 16, <= 65535)"
-            ),
-            InvalidConfig::InvalidHeight(value) => write!(
-                f,
-                "invalid height {value} (expected >= 16, <= 65535)"
-            ),
-            InvalidConfig::InvalidAspectRatioNum(value) => write!(
-                f,
-                "invalid aspect ratio numerator {value} (expected > 0)"
-            ),
-            InvalidConfig::InvalidAspectRatioDen(value) => write!(
-                f,
-                "invalid aspect ratio denominator {value} (expected > 0)"
-            ),
-            InvalidConfig::InvalidRenderWidth(value) => write!(
-                f,
-                "invalid render width {value} (expected >= 1, <= 65535"
-            ),
-            InvalidConfig::InvalidRenderHeight(value) => write!(
-                f,
-                "invalid render height {value} (expected >= 1, <= 65535"
-            ),
-            InvalidConfig::InvalidRdoLookaheadFrames { actual, max, min } => write!(
-                f,
-                "invalid rdo lookahead frames {actual} (expected <= {max} and >= {min})"
-            ),
-            InvalidConfig::InvalidMaxKeyFrameInterval { actual, max } => write!(
-                f,
-                "invalid max keyframe interval {actual} (expected <= {max})"
-            ),
-            InvalidConfig::InvalidTileCols(value) => write!(
-                f,
-                "invalid tile cols {value} (expected power of 2)"
-            ),
-            InvalidConfig::InvalidTileRows(value) => write!(
-                f,
-                "invalid tile rows {value} (expected power of 2)"
-            ),
-            InvalidConfig::InvalidFrameRateNum { actual, max } => write!(
-                f,
-                "invalid framerate numerator {actual} (expected > 0, <= {max})"
-            ),
-            InvalidConfig::InvalidFrameRateDen { actual, max } => write!(
-                f,
-                "invalid framerate denominator {actual} (expected > 0, <= {max})"
-            ),
-            InvalidConfig::InvalidReservoirFrameDelay(value) => write!(
-                f,
-                "invalid reservoir frame delay {value} (expected >= 12, <= 131072)"
-            ),
-            InvalidConfig::InvalidSwitchFrameInterval(value) => write!(
-                f,
-                "invalid switch frame interval {value} (must only be used with low latency mode)"
-            ),
-            InvalidConfig::InvalidOptionWithStillPicture(option) => write!(
-                f,
-                "invalid option {option} specified with still picture mode"
-            ),
-            InvalidConfig::TargetBitrateNeeded => f.write_str(
-                "The rate control requires a target bitrate",
-            ),
-            InvalidConfig::RateControlConfigurationMismatch => f.write_str(
-                "Mismatch in the rate control configuration",
-            ),
-            InvalidConfig::ColorConfigurationMismatch => f.write_str(
-                "Mismatch in the color configuration",
-            ),
-            InvalidConfig::LevelUndefined => f.write_str("Specified level is undefined"),
-            InvalidConfig::LevelConstraintsExceeded => f.write_str(
-                "Constraints exceeded for specified level",
-            ),
-            InvalidConfig::InvalidQuantizer(value) => write!(f, "invalid quantizer {value}"),
-            InvalidConfig::InvalidBitDepth(value) => write!(f, "invalid bit depth {value}"),
-        }
-    }
-}
-
-impl Error for InvalidConfig {}

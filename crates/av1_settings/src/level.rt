@@ -1,5 +1,5 @@
 ghost use Rattle.std.specs.Prelude.{◌≡◌};
-ghost use Rattle.av1_settings.specs.Levels.{level_rows};
+ghost use Rattle.av1_settings.specs.Levels.{levels_of};
 
 /// What a level allows (a row of the AV1 specification's tables of levels).
 #[derive(Clone, Copy, Debug)]
@@ -19,13 +19,13 @@ pub struct LevelRow {
 /// The levels with the indexes 0 to 30; 31 stands for none.
 #[derive(Debug, Drop)]
 pub struct LevelTables {
-    rows: [LevelRow; 31],
+    pub(crate) rows: [LevelRow; 31],
 }
 
 impl LevelTables {
     /// The tables with these rows, by level index.
     pub fn new(rows: [LevelRow; 31]) -> LevelTables
-        ensures { level_rows result ≡ rows }
+        ensures { levels_of result ≡ rows }
     {
         LevelTables { rows }
     }

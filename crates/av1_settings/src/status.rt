@@ -1,8 +1,8 @@
-use std::error::Error;
 use std::fmt;
+use thiserror::Error;
 
 /// Why a call gave no packet, or took no frame.
-#[derive(Clone, Copy, Debug, PartialEq, Eq)]
+#[derive(Clone, Copy, Debug, PartialEq, Eq, Error)]
 pub enum EncoderStatus {
     /// More frames, or a flush, have to come before the next packet.
     NeedMoreData,
@@ -12,7 +12,7 @@ pub enum EncoderStatus {
     LimitReached,
     /// A frame was coded that isn't shown yet.
     Encoded,
-    /// The session failed before.
+    /// The session failed, in this call or in one before.
     Failure,
     /// The rate data of another pass has to be taken or given first.
     NotReady,
@@ -41,5 +41,3 @@ impl fmt::Display for EncoderStatus {
         })
     }
 }
-
-impl Error for EncoderStatus {}

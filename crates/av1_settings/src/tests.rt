@@ -1,3 +1,5 @@
+mod checks;
 mod color;
 mod settings;
+mod stats;
 mod texts;

@@ -1,24 +1,19 @@
 use crate::{
-    BlockSize, Config, EncoderConfig, FrameType, InvalidConfig, LevelRow, LevelTables,
-    PartitionRange, PredictionModesSetting, RateControlConfig, Rational, SGRComplexityLevel,
-    SceneDetectionSpeed, SegmentationLevel, SpeedSettings, container_sequence_header,
+    BlockSize, Config, EncoderConfig, FrameType, PartitionRange, PredictionModesSetting,
+    RateControlConfig, Rational, SGRComplexityLevel, SceneDetectionSpeed, SegmentationLevel,
+    SpeedSettings, container_sequence_header,
 };
 use av1_frame::ChromaSampling;
 
 #[test]
-fn the_first_failing_check_answers(rt: HostRuntime) {
+fn an_interval_of_zero_is_the_greatest(rt: HostRuntime) {
     let mut enc = EncoderConfig::default();
-    assert_eq!(rt; Config::new().validate(), Ok(()));
-    enc.set_key_frame_interval(0, 0);
+    assert_eq!(rt; enc.key_frame_interval(), 240);
+    enc.set_key_frame_interval(3, 0);
+    assert_eq!(rt; enc.min_key_frame_interval, 3);
     assert_eq!(rt; enc.max_key_frame_interval, 715827882);
-    enc.width = 15;
-    enc.height = 15;
-    // no memory is taken, so a copy is always there
-    let small = Config::new().with_encoder_config(enc.clone().unwrap());
-    assert_eq!(rt; small.validate(), Err(InvalidConfig::InvalidWidth(15)));
-    enc.width = 16;
-    let low = Config::default().with_encoder_config(enc);
-    assert_eq!(rt; low.validate(), Err(InvalidConfig::InvalidHeight(15)));
+    enc.max_key_frame_interval = 0;
+    assert_eq!(rt; enc.key_frame_interval(), 715827882);
 }
 
 #[test]
@@ -28,6 +23,7 @@ fn builders_keep_the_rest(rt: HostRuntime) {
         .with_rate_control(RateControlConfig::new().with_emit_data(true))
         .with_encoder_config(EncoderConfig::with_speed_preset(9))
         .with_parallel_gops(2);
+    // no memory is taken, so a copy is always there
     let copy = config.clone().unwrap();
     assert_eq!(rt; copy.threads, 3);
     assert_eq!(rt; copy.slots, 2);
@@ -69,54 +65,57 @@ fn presets_from_ten_on_are_the_same(rt: HostRuntime) {
     }
 }
 
+// Speed, lookahead, prediction modes and smallest block.
+const PRESETS: [(u8, usize, PredictionModesSetting, BlockSize); 9] = [
+    (
+        0,
+        40,
+        PredictionModesSetting::ComplexAll,
+        BlockSize::BLOCK_4X4,
+    ),
+    (
+        1,
+        40,
+        PredictionModesSetting::ComplexAll,
+        BlockSize::BLOCK_4X4,
+    ),
+    (
+        2,
+        40,
+        PredictionModesSetting::ComplexKeyframes,
+        BlockSize::BLOCK_4X4,
+    ),
+    (
+        3,
+        30,
+        PredictionModesSetting::ComplexKeyframes,
+        BlockSize::BLOCK_8X8,
+    ),
+    (
+        5,
+        30,
+        PredictionModesSetting::ComplexKeyframes,
+        BlockSize::BLOCK_8X8,
+    ),
+    (
+        6,
+        20,
+        PredictionModesSetting::ComplexKeyframes,
+        BlockSize::BLOCK_8X8,
+    ),
+    (7, 20, PredictionModesSetting::Simple, BlockSize::BLOCK_8X8),
+    (8, 10, PredictionModesSetting::Simple, BlockSize::BLOCK_8X8),
+    (
+        9,
+        10,
+        PredictionModesSetting::Simple,
+        BlockSize::BLOCK_16X16,
+    ),
+];
+
 #[test]
 fn presets_change_where_the_table_says(rt: HostRuntime) {
-    for (speed, lookahead, modes, smallest) in [
-        (
-            0,
-            40,
-            PredictionModesSetting::ComplexAll,
-            BlockSize::BLOCK_4X4,
-        ),
-        (
-            1,
-            40,
-            PredictionModesSetting::ComplexAll,
-            BlockSize::BLOCK_4X4,
-        ),
-        (
-            2,
-            40,
-            PredictionModesSetting::ComplexKeyframes,
-            BlockSize::BLOCK_4X4,
-        ),
-        (
-            3,
-            30,
-            PredictionModesSetting::ComplexKeyframes,
-            BlockSize::BLOCK_8X8,
-        ),
-        (
-            5,
-            30,
-            PredictionModesSetting::ComplexKeyframes,
-            BlockSize::BLOCK_8X8,
-        ),
-        (
-            6,
-            20,
-            PredictionModesSetting::ComplexKeyframes,
-            BlockSize::BLOCK_8X8,
-        ),
-        (7, 20, PredictionModesSetting::Simple, BlockSize::BLOCK_8X8),
-        (8, 10, PredictionModesSetting::Simple, BlockSize::BLOCK_8X8),
-        (
-            9,
-            10,
-            PredictionModesSetting::Simple,
-            BlockSize::BLOCK_16X16,
-        ),
-    ] {
+    for (speed, lookahead, modes, smallest) in PRESETS {
         let settings = EncoderConfig::with_speed_preset(speed).speed_settings;
         assert_eq!(rt; settings.rdo_lookahead_frames, lookahead, "at {speed}");
         assert_eq!(rt; settings.prediction.prediction_modes, modes, "at {speed}");
@@ -166,14 +165,10 @@ fn small_questions(rt: HostRuntime) {
     assert!(rt; !enc.temporal_rdo());
     enc.speed_settings.transform.tx_domain_distortion = false;
     assert!(rt; enc.temporal_rdo());
-    let row = LevelRow {
-        defined: true,
-        max_pic_size: 147456,
-        max_h_size: 2048,
-        max_v_size: 1152,
-        max_display_rate: 4423680,
-    };
-    let _tables = LevelTables::new([row; 31]);
+    enc.speed_settings.multiref = false;
+    assert!(rt; enc.multiref());
+    enc.low_latency = true;
+    assert!(rt; !enc.multiref());
 }
 
 #[test]

@@ -4,110 +4,112 @@ use crate::{
 };
 use std::alloc::AllocError;
 
+// Every refusal in the order of its number, and its text.
+const REFUSALS: [(InvalidConfig, &str); 22] = [
+    (
+        InvalidConfig::InvalidWidth(15),
+        "invalid width 15 (expected >= 16, <= 65535)",
+    ),
+    (
+        InvalidConfig::InvalidHeight(65536),
+        "invalid height 65536 (expected >= 16, <= 65535)",
+    ),
+    (
+        InvalidConfig::InvalidAspectRatioNum(0),
+        "invalid aspect ratio numerator 0 (expected > 0)",
+    ),
+    (
+        InvalidConfig::InvalidAspectRatioDen(0),
+        "invalid aspect ratio denominator 0 (expected > 0)",
+    ),
+    (
+        InvalidConfig::InvalidRenderWidth(0),
+        "invalid render width 0 (expected >= 1, <= 65535",
+    ),
+    (
+        InvalidConfig::InvalidRenderHeight(70000),
+        "invalid render height 70000 (expected >= 1, <= 65535",
+    ),
+    (
+        InvalidConfig::InvalidRdoLookaheadFrames {
+            actual: 0,
+            max: 18446744073709551614,
+            min: 1,
+        },
+        "invalid rdo lookahead frames 0 (expected <= 18446744073709551614 and >= 1)",
+    ),
+    (
+        InvalidConfig::InvalidMaxKeyFrameInterval {
+            actual: 715827883,
+            max: 715827882,
+        },
+        "invalid max keyframe interval 715827883 (expected <= 715827882)",
+    ),
+    (
+        InvalidConfig::InvalidTileCols(3),
+        "invalid tile cols 3 (expected power of 2)",
+    ),
+    (
+        InvalidConfig::InvalidTileRows(5),
+        "invalid tile rows 5 (expected power of 2)",
+    ),
+    (
+        InvalidConfig::InvalidFrameRateNum {
+            actual: 0,
+            max: 4294967295,
+        },
+        "invalid framerate numerator 0 (expected > 0, <= 4294967295)",
+    ),
+    (
+        InvalidConfig::InvalidFrameRateDen {
+            actual: 4294967296,
+            max: 4294967295,
+        },
+        "invalid framerate denominator 4294967296 (expected > 0, <= 4294967295)",
+    ),
+    (
+        InvalidConfig::InvalidReservoirFrameDelay(-11),
+        "invalid reservoir frame delay -11 (expected >= 12, <= 131072)",
+    ),
+    (
+        InvalidConfig::InvalidSwitchFrameInterval(2),
+        "invalid switch frame interval 2 (must only be used with low latency mode)",
+    ),
+    (
+        InvalidConfig::InvalidOptionWithStillPicture(StillOption::EnableTimingInfo),
+        "invalid option enable_timing_info specified with still picture mode",
+    ),
+    (
+        InvalidConfig::TargetBitrateNeeded,
+        "The rate control requires a target bitrate",
+    ),
+    (
+        InvalidConfig::RateControlConfigurationMismatch,
+        "Mismatch in the rate control configuration",
+    ),
+    (
+        InvalidConfig::ColorConfigurationMismatch,
+        "Mismatch in the color configuration",
+    ),
+    (
+        InvalidConfig::LevelUndefined,
+        "Specified level is undefined",
+    ),
+    (
+        InvalidConfig::LevelConstraintsExceeded,
+        "Constraints exceeded for specified level",
+    ),
+    (
+        InvalidConfig::InvalidQuantizer(256),
+        "invalid quantizer 256",
+    ),
+    (InvalidConfig::InvalidBitDepth(9), "invalid bit depth 9"),
+];
+
 #[test]
 fn refusals_have_their_texts_and_numbers(rt: HostRuntime) -> Result<(), AllocError> {
-    let cases = [
-        (
-            InvalidConfig::InvalidWidth(15),
-            "invalid width 15 (expected >= 16, <= 65535)",
-        ),
-        (
-            InvalidConfig::InvalidHeight(65536),
-            "invalid height 65536 (expected >= 16, <= 65535)",
-        ),
-        (
-            InvalidConfig::InvalidAspectRatioNum(0),
-            "invalid aspect ratio numerator 0 (expected > 0)",
-        ),
-        (
-            InvalidConfig::InvalidAspectRatioDen(0),
-            "invalid aspect ratio denominator 0 (expected > 0)",
-        ),
-        (
-            InvalidConfig::InvalidRenderWidth(0),
-            "invalid render width 0 (expected >= 1, <= 65535",
-        ),
-        (
-            InvalidConfig::InvalidRenderHeight(70000),
-            "invalid render height 70000 (expected >= 1, <= 65535",
-        ),
-        (
-            InvalidConfig::InvalidRdoLookaheadFrames {
-                actual: 0,
-                max: 18446744073709551614,
-                min: 1,
-            },
-            "invalid rdo lookahead frames 0 (expected <= 18446744073709551614 and >= 1)",
-        ),
-        (
-            InvalidConfig::InvalidMaxKeyFrameInterval {
-                actual: 715827883,
-                max: 715827882,
-            },
-            "invalid max keyframe interval 715827883 (expected <= 715827882)",
-        ),
-        (
-            InvalidConfig::InvalidTileCols(3),
-            "invalid tile cols 3 (expected power of 2)",
-        ),
-        (
-            InvalidConfig::InvalidTileRows(5),
-            "invalid tile rows 5 (expected power of 2)",
-        ),
-        (
-            InvalidConfig::InvalidFrameRateNum {
-                actual: 0,
-                max: 4294967295,
-            },
-            "invalid framerate numerator 0 (expected > 0, <= 4294967295)",
-        ),
-        (
-            InvalidConfig::InvalidFrameRateDen {
-                actual: 4294967296,
-                max: 4294967295,
-            },
-            "invalid framerate denominator 4294967296 (expected > 0, <= 4294967295)",
-        ),
-        (
-            InvalidConfig::InvalidReservoirFrameDelay(-11),
-            "invalid reservoir frame delay -11 (expected >= 12, <= 131072)",
-        ),
-        (
-            InvalidConfig::InvalidSwitchFrameInterval(2),
-            "invalid switch frame interval 2 (must only be used with low latency mode)",
-        ),
-        (
-            InvalidConfig::InvalidOptionWithStillPicture(StillOption::EnableTimingInfo),
-            "invalid option enable_timing_info specified with still picture mode",
-        ),
-        (
-            InvalidConfig::TargetBitrateNeeded,
-            "The rate control requires a target bitrate",
-        ),
-        (
-            InvalidConfig::RateControlConfigurationMismatch,
-            "Mismatch in the rate control configuration",
-        ),
-        (
-            InvalidConfig::ColorConfigurationMismatch,
-            "Mismatch in the color configuration",
-        ),
-        (
-            InvalidConfig::LevelUndefined,
-            "Specified level is undefined",
-        ),
-        (
-            InvalidConfig::LevelConstraintsExceeded,
-            "Constraints exceeded for specified level",
-        ),
-        (
-            InvalidConfig::InvalidQuantizer(256),
-            "invalid quantizer 256",
-        ),
-        (InvalidConfig::InvalidBitDepth(9), "invalid bit depth 9"),
-    ];
     let mut number = 0u8;
-    for (refusal, text) in cases {
+    for (refusal, text) in REFUSALS {
         number = number.saturating_add(1);
         assert_eq!(rt; refusal.number(), number);
         let printed = refusal.to_string(rt.alloc())?;
@@ -118,16 +120,20 @@ fn refusals_have_their_texts_and_numbers(rt: HostRuntime) -> Result<(), AllocErr
 }
 
 #[test]
-fn types_and_statuses_have_their_texts(rt: HostRuntime) -> Result<(), AllocError> {
+fn types_and_statuses_are_in_order_with_their_texts(rt: HostRuntime) -> Result<(), AllocError> {
+    let mut place = 0u8;
     for (frame_type, text) in [
         (FrameType::KEY, "Key frame"),
         (FrameType::INTER, "Inter frame"),
         (FrameType::INTRA_ONLY, "Intra only frame"),
         (FrameType::SWITCH, "Switching frame"),
     ] {
+        assert_eq!(rt; frame_type as u8, place);
+        place = place.saturating_add(1);
         let printed = frame_type.to_string(rt.alloc())?;
         assert_eq!(rt; printed.as_str(), text);
     }
+    place = 0;
     for (status, text) in [
         (EncoderStatus::NeedMoreData, "need more data"),
         (EncoderStatus::EnoughData, "enough data"),
@@ -138,6 +144,8 @@ fn types_and_statuses_have_their_texts(rt: HostRuntime) -> Result<(), AllocError
         (EncoderStatus::FrameSizeMismatch, "frame size mismatch"),
         (EncoderStatus::OutOfMemory, "out of memory"),
     ] {
+        assert_eq!(rt; status as u8, place);
+        place = place.saturating_add(1);
         let printed = status.to_string(rt.alloc())?;
         assert_eq!(rt; printed.as_str(), text);
     }
@@ -146,11 +154,14 @@ fn types_and_statuses_have_their_texts(rt: HostRuntime) -> Result<(), AllocError
 
 #[test]
 fn speed_words_have_their_texts(rt: HostRuntime) -> Result<(), AllocError> {
+    let mut place = 0u8;
     for (mode, text) in [
         (SceneDetectionSpeed::Fast, "Fast"),
         (SceneDetectionSpeed::Standard, "Standard"),
         (SceneDetectionSpeed::None, "None"),
     ] {
+        assert_eq!(rt; mode as u8, place);
+        place = place.saturating_add(1);
         assert_eq!(rt; mode.to_string(rt.alloc())?.as_str(), text);
     }
     for (modes, text) in [
@@ -218,7 +229,10 @@ fn block_sizes_are_in_order_with_their_texts(rt: HostRuntime) -> Result<(), Allo
 
 #[test]
 fn the_default_settings_print_one_line(rt: HostRuntime) -> Result<(), AllocError> {
-    let printed = EncoderConfig::default().to_string(rt.alloc())?;
+    let mut enc = EncoderConfig::default();
+    // counts with low latency alone
+    enc.speed_settings.multiref = false;
+    let printed = enc.to_string(rt.alloc())?;
     let line =
         "keyint_min=12 keyint_max=240 quantizer=100 bitrate=0 min_quantizer=0 low_latency=false tune=Psychovisual rdo_lookahead_frames=20 multiref=true fast_deblock=false scene_detection_mode=Standard cdef=true lrf=true enable_timing_info=false min_block_size=8x8 max_block_size=64x64 encode_bottomup=false non_square_partition_max_threshold=8x8 reduced_tx_set=true tx_domain_distortion=true tx_domain_rate=false rdo_tx_decision=false prediction_modes=Complex-KFs fine_directional_intra=true include_near_mvs=false use_satd_subpel=true";
     assert_eq!(rt; printed.as_str(), line);
