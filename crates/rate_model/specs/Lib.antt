@@ -1,0 +1,4 @@
+pub mod Curves
+pub mod Measure
+pub mod Search
+pub mod Subtype

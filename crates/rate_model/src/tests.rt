@@ -1,0 +1,39 @@
+//! Worked searches, and each public call.
+
+use super::*;
+
+#[test]
+fn no_frames_ahead(rt: HostRuntime) {
+    let model = RateModel {
+        nframes: [0; 5],
+        log_scale: [0; 4],
+        exp: [1; 4],
+        log_npixels: 0,
+    };
+    for (budget, value, probes) in [(0, 5, 1), (1, -1, 3), (-1, 10, 3)] {
+        assert_eq!(rt;
+            search_base_q(&model, budget, 0, 10),
+            Search { value, probes }
+        );
+    }
+}
+
+#[test]
+fn exponents_by_pixels_for_each_bit(rt: HostRuntime) {
+    for (pixels_per_bit, exponents) in [(0, [48, 69, 84, 87]), (500, [77, 83, 68, 61])] {
+        let subtypes = start_subtypes(pixels_per_bit);
+        for j in 0..4 {
+            assert_eq!(rt; subtypes[j].exponent(), exponents[j]);
+        }
+    }
+}
+
+#[test]
+fn frame_without_bits(rt: HostRuntime) {
+    let mut key = SubtypeState::new(64, 8, 4);
+    assert_eq!(rt; (key.log_scale(), key.current(), key.frames()), (0, 0, 0));
+    key.take(0, 12, 0, 0, true, 0, false);
+    assert_eq!(rt; (key.log_scale(), key.frames()), (0, 1));
+    assert_eq!(rt; key.estimate(0, power_log(0, 64)), 1);
+    assert_eq!(rt; wide::quotient(wide::times(-7, 1), 2), -3);
+}
