@@ -1,0 +1,6 @@
+pub mod BiasLaws
+pub mod CountLaws
+pub mod Four
+pub mod LedgerLaws
+pub mod LogLaws
+pub mod ReservoirLaws

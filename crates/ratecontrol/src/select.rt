@@ -1,0 +1,176 @@
+ghost use Rattle.std.specs.Prelude.{◌≡◌, ℕ, ◌+◌, ◌*◌, ◌^◌, ◌<◌, ◌≤◌, ◌==◌, Option, Some, None, int_lt, if◌then◌else◌, pos};
+ghost use Rattle.quantizers.specs.Tables.{Tables};
+ghost use Rattle.quantizers.specs.Flat.{flat};
+ghost use Rattle.quantizers.specs.Parameters.{parameters as parameters_of};
+ghost use Rattle.ratecontrol.specs.Select.{at_most as at_most_of, at_least as at_least_of, below_greatest as below_greatest_of, above_least as above_least_of, within_indices as within_indices_of, select_ahead as select_ahead_of, select_flat as select_flat_of, select};
+ghost use Rattle.ratecontrol.specs.Ahead.{ahead_of_guess as ahead_of_guess_of};
+
+use crate::ahead::Ahead;
+use crate::guess::SubtypeGuess;
+use crate::state::RCState;
+use crate::target::near_previous;
+use quantizers::{
+    FRAME_SUBTYPE_I, LogQuantizer, QSettings, QTables, QuantizerParameters, flat_quantizer,
+};
+
+fn at_most(q: LogQuantizer, bound: LogQuantizer) -> LogQuantizer
+    ensures { result ≡ at_most_of q bound }
+{
+    LogQuantizer {
+        base: q.base.min(bound.base),
+        target: q.target.min(bound.target),
+    }
+}
+
+fn at_least(q: LogQuantizer, bound: LogQuantizer) -> LogQuantizer
+    ensures { result ≡ at_least_of q bound }
+{
+    LogQuantizer {
+        base: q.base.max(bound.base),
+        target: q.target.max(bound.target),
+    }
+}
+
+fn below_greatest(
+    greatest: Option<u8>,
+    tables: &QTables,
+    bit_depth: u8,
+    fti: usize,
+    q: LogQuantizer,
+) -> LogQuantizer
+    requires depth_least { 8 ≤ bit_depth }
+    requires depth_most { bit_depth ≤ 12 }
+    requires fti { fti < 4 }
+    ensures { result ≡ below_greatest_of greatest tables.now bit_depth fti q }
+{
+    match greatest {
+        Some(i) => at_most(q, flat_quantizer(tables, bit_depth, i, fti)),
+        None => q,
+    }
+}
+
+fn above_least(
+    least: u8,
+    tables: &QTables,
+    bit_depth: u8,
+    fti: usize,
+    q: LogQuantizer,
+) -> LogQuantizer
+    requires depth_least { 8 ≤ bit_depth }
+    requires depth_most { bit_depth ≤ 12 }
+    requires fti { fti < 4 }
+    ensures { result ≡ above_least_of least tables.now bit_depth fti q }
+{
+    if least > 0 {
+        at_least(q, flat_quantizer(tables, bit_depth, least, fti))
+    } else {
+        q
+    }
+}
+
+/// The parameters where there is no bitrate: those of the index that is set.
+#[tactic(auto, unfolding(crate::specs::Select::select_flat))]
+fn select_flat(
+    settings: &QSettings,
+    tables: &QTables,
+    fti: usize,
+    mean_scale: i64,
+) -> QuantizerParameters
+    requires fti { fti < 4 }
+    requires depth_least { 8 ≤ settings.now.bit_depth }
+    requires depth_most { settings.now.bit_depth ≤ 12 }
+    ensures { result ≡ select_flat_of settings.now tables.now fti mean_scale }
+{
+    let q = flat_quantizer(tables, settings.bit_depth, settings.quantizer, fti);
+    QuantizerParameters::new_from_log_q(
+        tables,
+        settings,
+        q,
+        mean_scale,
+        fti == FRAME_SUBTYPE_I,
+        None,
+    )
+}
+
+impl RCState {
+    /// The quantiser, kept within the indices that are set.
+    fn within_indices(
+        &self,
+        tables: &QTables,
+        bit_depth: u8,
+        fti: usize,
+        q: LogQuantizer,
+    ) -> LogQuantizer
+        requires depth_least { 8 ≤ bit_depth }
+        requires depth_most { bit_depth ≤ 12 }
+        requires fti { fti < 4 }
+        ensures { result ≡ within_indices_of self.now tables.now bit_depth fti q }
+    {
+        let below = below_greatest(self.greatest, tables, bit_depth, fti, q);
+        above_least(self.least, tables, bit_depth, fti, below)
+    }
+
+    /// The parameters of a frame, from the frames ahead.
+    #[tactic(auto, unfolding(crate::specs::Select::select_ahead))]
+    fn select_ahead(
+        &self,
+        settings: &QSettings,
+        tables: &QTables,
+        ahead: &Ahead,
+        fti: usize,
+        prev: Option<i64>,
+        mean_scale: i64,
+    ) -> QuantizerParameters
+        requires fti { fti < 4 }
+        requires depth_least { 8 ≤ settings.now.bit_depth }
+        requires depth_most { settings.now.bit_depth ≤ 12 }
+        ensures { result
+            ≡ select_ahead_of self.now settings.now tables.now ahead.now fti prev mean_scale }
+    {
+        let found = self.search(tables, settings.bit_depth, ahead);
+        let base = near_previous(prev, found.value);
+        let target = self.target(ahead, fti, base);
+        let q = self.within_indices(
+            tables,
+            settings.bit_depth,
+            fti,
+            LogQuantizer { base, target },
+        );
+        QuantizerParameters::new_from_log_q(
+            tables,
+            settings,
+            q,
+            mean_scale,
+            fti == FRAME_SUBTYPE_I,
+            Some(found.value),
+        )
+    }
+
+    /// The quantiser parameters of the next frame, of subtype 0 to 3.
+    ///
+    /// `prev` is the base of the coded frame before, and `mean_scale` the logarithm of the frame's mean distortion
+    /// scale in Q57, within 16 of 0. Without a bitrate the parameters are those of the index that is set.
+    pub fn select_qi<G: SubtypeGuess>(
+        &self,
+        settings: &QSettings,
+        tables: &QTables,
+        guess: &G,
+        fti: usize,
+        prev: Option<i64>,
+        mean_scale: i64,
+    ) -> QuantizerParameters
+        requires fti { fti < 4 }
+        requires depth_least { 8 ≤ settings.now.bit_depth }
+        requires depth_most { settings.now.bit_depth ≤ 12 }
+        ensures { result
+            ≡ select self.now settings.now tables.now (G.guess guess.now) fti prev mean_scale }
+    {
+        if self.is_controlled() {
+            let guess = guess.guess(self.reservoir_delay);
+            let ahead = self.ahead_of_guess(&guess, fti);
+            self.select_ahead(settings, tables, &ahead, fti, prev, mean_scale)
+        } else {
+            select_flat(settings, tables, fti, mean_scale)
+        }
+    }
+}

@@ -1,0 +1,298 @@
+ghost use Rattle.std.specs.Prelude.{◌≡◌, ℕ, ◌+◌, ◌-◌, ◌*◌, ◌/◌, ◌^◌, ◌<◌, ◌≤◌, IsTrue, ◌&&◌, Option, int_div, int_lt, is_none, pos, ◌+ℤ◌, ◌-ℤ◌, ◌*ℤ◌, ◌≤ℤ◌, ◌<ℤ◌};
+ghost use Rattle.std.specs.Int.{int_shr, int_min, int_max, saturate_signed, w64};
+ghost use Rattle.fixed_log.specs.Within.{IsWithin};
+ghost use Rattle.fixed_log.specs.Logarithm.{blog64 as blog64_of};
+ghost use Rattle.rate_model.specs.Subtype.{subtype_at};
+ghost use Rattle.rate_model.specs.Search.{power_log as power_log_of};
+ghost use Rattle.ratecontrol.specs.Select.{near_base, near_previous as near_previous_of, target_of_power as target_of_power_of, margin as margin_of, overflow as overflow_of, overflow_part as overflow_part_of, overflow_log as overflow_log_of, runs_over as runs_over_of, power_against_overflow as power_against_overflow_of, target_against_overflow as target_against_overflow_of, held as held_of, held_log as held_log_of, runs_dry as runs_dry_of, target_against_underflow as target_against_underflow_of, log_bits_of, target_of};
+
+use crate::ahead::Ahead;
+use crate::state::RCState;
+use fixed_log::blog64;
+use quantizers::{modulated, saturated};
+use rate_model::power_log;
+use rate_model::wide::{quotient, times};
+
+/// How far the base may move from that of the coded frame before: the logarithm of a quantiser ratio of 1.25, in Q57.
+const MOST_MOVE: i128 = 0xA4_D3C2_5E68_DC58;
+
+/// The base, kept near that of the coded frame before.
+pub(crate) fn near_previous(previous: Option<i64>, q: i64) -> i64
+    ensures { result ≡ near_previous_of previous q }
+{
+    match previous {
+        Some(previous) => near(previous, q),
+        None => q,
+    }
+}
+
+fn near(previous: i64, q: i64) -> i64
+    ensures { result ≡ near_base previous q }
+{
+    let low = previous as i128 - MOST_MOVE;
+    let high = previous as i128 + MOST_MOVE;
+    if (q as i128) < low {
+        low as i64
+    } else if (q as i128) > high {
+        high as i64
+    } else {
+        q
+    }
+}
+
+/// The quantiser whose power with the exponent has this logarithm.
+fn target_of_power(power: i128, exponent: u8) -> i64
+    requires exponent { 1 ≤ exponent }
+    requires power { IsWithin (2 ^ 72) power }
+    ensures { result ≡ target_of_power_of power exponent }
+{
+    saturated(64 * nearest_quotient(power, exponent))
+}
+
+/// The quotient, rounded.
+fn nearest_quotient(power: i128, exponent: u8) -> i128
+    requires exponent { 1 ≤ exponent }
+    requires power { IsWithin (2 ^ 72) power }
+    ensures value { result ≡ int_div (power +ℤ pos (exponent / 2)) (pos exponent) }
+    ensures within { IsWithin (2 ^ 73) result }
+{
+    quotient(power + (exponent / 2) as i128, exponent as i128)
+}
+
+impl RCState {
+    /// The last 32nd of the reservoir.
+    fn margin(&self) -> i128
+        ensures value { result ≡ margin_of self.now }
+        ensures low { pos 1 ≤ℤ result }
+        ensures high { result ≤ℤ pos (2 ^ 78) }
+    {
+        (self.most + 31) >> 5
+    }
+
+    /// The reservoir after a frame that is shown and takes no bits, without its limit.
+    fn refilled(&self) -> i128
+        ensures value { result ≡ self.now.reservoir +ℤ self.now.bits_per_tu }
+        ensures within { IsWithin (2 ^ 97) result }
+    {
+        self.reservoir + self.bits_per_tu as i128
+    }
+
+    /// The reservoir without its margin.
+    fn below_margin(&self) -> i128
+        ensures value { result ≡ self.now.most -ℤ margin_of self.now }
+        ensures within { IsWithin (2 ^ 79) result }
+    {
+        self.most - self.margin()
+    }
+
+    /// How far the reservoir would reach into its margin if the frame took no bits.
+    fn overflow(&self) -> i128
+        ensures value { result ≡ overflow_of self.now }
+        ensures within { IsWithin (2 ^ 98) result }
+    {
+        self.refilled() - self.below_margin()
+    }
+
+    /// The part of the margin that is reached, of scale 2^32.
+    fn overflow_part(&self) -> i64
+        requires { pos 0 <ℤ overflow_of self.now }
+        ensures value { result ≡ overflow_part_of self.now }
+        ensures within { IsWithin (2 ^ 32) result }
+    {
+        part_of(self.overflow(), self.margin())
+    }
+
+    /// The bits that a frame may take.
+    fn held(&self) -> i128
+        ensures value { result ≡ held_of self.now }
+    {
+        self.reservoir + (self.bits_per_tu >> 1) as i128
+    }
+}
+
+/// The lesser of both over the second, of scale 2^32.
+fn part_of(part: i128, whole: i128) -> i64
+    requires part { pos 0 <ℤ part }
+    requires whole_low { pos 1 ≤ℤ whole }
+    requires whole_high { whole ≤ℤ pos (2 ^ 78) }
+    ensures value { result ≡ int_div (int_min whole part *ℤ pos (2 ^ 32)) whole }
+    ensures within { IsWithin (2 ^ 32) result }
+{
+    ratio(part, whole) as i64
+}
+
+fn ratio(part: i128, whole: i128) -> i128
+    requires part { pos 0 <ℤ part }
+    requires whole_low { pos 1 ≤ℤ whole }
+    requires whole_high { whole ≤ℤ pos (2 ^ 78) }
+    ensures value { result ≡ int_div (int_min whole part *ℤ pos (2 ^ 32)) whole }
+    ensures within { IsWithin (2 ^ 32) result }
+{
+    quotient(scaled_part(part, whole), whole)
+}
+
+fn scaled_part(part: i128, whole: i128) -> i128
+    requires part { pos 0 <ℤ part }
+    requires whole_low { pos 1 ≤ℤ whole }
+    requires whole_high { whole ≤ℤ pos (2 ^ 78) }
+    ensures { result ≡ int_min whole part *ℤ pos (2 ^ 32) }
+{
+    let lesser = if part < whole { part } else { whole };
+    lesser * (1 << 32)
+}
+
+impl RCState {
+    fn overflow_log(&self) -> i64
+        ensures { result ≡ overflow_log_of self.now }
+    {
+        blog64(saturated(self.overflow()))
+    }
+
+    /// Whether the reservoir would run over, and the frame takes fewer bits than that.
+    fn runs_over(&self, log_bits: i128, power: i128) -> bool
+        requires log_bits { IsWithin (2 ^ 64) log_bits }
+        requires power { IsWithin (2 ^ 67) power }
+        ensures value { result ≡ runs_over_of self.now log_bits power }
+        ensures positive { IsTrue result → pos 0 <ℤ overflow_of self.now }
+    {
+        self.overflow() > 0 && less(log_bits, power) < self.overflow_log() as i128
+    }
+
+    /// The power, moved towards the one that fills the margin, by the part of the margin that is reached.
+    fn power_against_overflow(&self, log_bits: i128, power: i128) -> i128
+        requires overflow { pos 0 <ℤ overflow_of self.now }
+        requires log_bits { IsWithin (2 ^ 64) log_bits }
+        requires power { IsWithin (2 ^ 67) power }
+        ensures value { result ≡ power_against_overflow_of self.now log_bits power }
+        ensures within { IsWithin (2 ^ 72) result }
+    {
+        let step = high_half(difference(log_bits, self.overflow_log(), power));
+        moved(power, step_times(step, self.overflow_part()))
+    }
+
+    /// The target, raised where the reservoir would run over.
+    #[tactic(auto, unfolding(crate::specs::Select::target_against_overflow))]
+    fn target_against_overflow(&self, log_bits: i128, exponent: u8, target: i128) -> i64
+        requires exponent { 1 ≤ exponent }
+        requires log_bits { IsWithin (2 ^ 64) log_bits }
+        requires target { IsWithin (2 ^ 64) target }
+        ensures { result ≡ target_against_overflow_of self.now log_bits exponent target }
+    {
+        let power = power_log(target, exponent);
+        if self.runs_over(log_bits, power) {
+            target_of_power(self.power_against_overflow(log_bits, power), exponent)
+        } else {
+            saturated(target)
+        }
+    }
+
+    fn held_log(&self) -> i64
+        ensures { result ≡ held_log_of self.now }
+    {
+        blog64(saturated(self.held()))
+    }
+
+    /// Whether the frame would take more bits than there are, and no greatest index forbids a higher quantiser.
+    fn runs_dry(&self, log_bits: i128, power: i128) -> bool
+        requires log_bits { IsWithin (2 ^ 64) log_bits }
+        requires power { IsWithin (2 ^ 67) power }
+        ensures { result ≡ runs_dry_of self.now log_bits power }
+    {
+        self.greatest.is_none() && less(log_bits, power) > self.held_log() as i128
+    }
+
+    /// The power with which the frame takes the bits that there are.
+    fn power_against_underflow(&self, log_bits: i128) -> i128
+        requires log_bits { IsWithin (2 ^ 64) log_bits }
+        ensures value { result ≡ log_bits -ℤ held_log_of self.now }
+        ensures within { IsWithin (2 ^ 65) result }
+    {
+        log_bits - self.held_log() as i128
+    }
+
+    /// The target, raised where the frame would take more bits than there are.
+    #[tactic(auto, unfolding(crate::specs::Select::target_against_underflow))]
+    fn target_against_underflow(&self, log_bits: i128, exponent: u8, target: i64) -> i64
+        requires exponent { 1 ≤ exponent }
+        requires log_bits { IsWithin (2 ^ 64) log_bits }
+        ensures { result ≡ target_against_underflow_of self.now log_bits exponent target }
+    {
+        let power = power_log(target as i128, exponent);
+        if self.runs_dry(log_bits, power) {
+            target_of_power(self.power_against_underflow(log_bits), exponent)
+        } else {
+            target
+        }
+    }
+
+    /// The logarithm of the frame's bits at quantiser 1.
+    fn log_bits(&self, ahead: &Ahead) -> i128
+        ensures value { result ≡ log_bits_of self.now ahead.now }
+        ensures within { IsWithin (2 ^ 64) result }
+    {
+        sum_of_logs(ahead.current, self.log_npixels)
+    }
+
+    /// The quantiser that a frame aims at, from the base, as far as the reservoir asks for another.
+    #[tactic(auto, unfolding(crate::specs::Select::target_of))]
+    pub(crate) fn target(&self, ahead: &Ahead, fti: usize, base: i64) -> i64
+        requires { fti < 4 }
+        ensures { result ≡ target_of self.now ahead.now fti base }
+    {
+        let exponent = self.subtypes[fti].exponent();
+        let log_bits = self.log_bits(ahead);
+        let target = self.target_against_overflow(log_bits, exponent, modulated(base, fti));
+        self.target_against_underflow(log_bits, exponent, target)
+    }
+}
+
+fn sum_of_logs(a: i64, b: i64) -> i128
+    ensures value { result ≡ a +ℤ b }
+    ensures within { IsWithin (2 ^ 64) result }
+{
+    a as i128 + b as i128
+}
+
+fn difference(log_bits: i128, h: i64, power: i128) -> i128
+    requires log_bits { IsWithin (2 ^ 64) log_bits }
+    requires power { IsWithin (2 ^ 67) power }
+    ensures value { result ≡ log_bits -ℤ h -ℤ power }
+    ensures within { IsWithin (2 ^ 68) result }
+{
+    log_bits - h as i128 - power
+}
+
+fn less(log_bits: i128, power: i128) -> i128
+    requires log_bits { IsWithin (2 ^ 64) log_bits }
+    requires power { IsWithin (2 ^ 67) power }
+    ensures { result ≡ log_bits -ℤ power }
+{
+    log_bits - power
+}
+
+/// From Q57 to Q25, rounded down.
+fn high_half(x: i128) -> i128
+    requires { IsWithin (2 ^ 68) x }
+    ensures value { result ≡ int_shr x 32 }
+    ensures within { IsWithin (2 ^ 38) result }
+{
+    x >> 32
+}
+
+fn step_times(step: i128, part: i64) -> i128
+    requires step { IsWithin (2 ^ 38) step }
+    requires part { IsWithin (2 ^ 32) part }
+    ensures value { result ≡ step *ℤ part }
+    ensures within { IsWithin (2 ^ 70) result }
+{
+    times(step, part)
+}
+
+fn moved(power: i128, by: i128) -> i128
+    requires power { IsWithin (2 ^ 67) power }
+    requires by { IsWithin (2 ^ 70) by }
+    ensures value { result ≡ power +ℤ by }
+    ensures within { IsWithin (2 ^ 72) result }
+{
+    power + by
+}
