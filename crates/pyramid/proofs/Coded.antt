@@ -29,7 +29,7 @@ either_holds true frame f o h = inl (cc)
 either_holds false frame f o h = inr h
 
 -- one command puts its frame there, or leaves what was there
-held-after_one : (slots : Slots) (command : Command) (slot f : ℕ) → held (slots_after_one slots command) slot ≡ Some f → (codes f command ≡ true) ⊎ (held slots slot ≡ Some f)
+pub held-after_one : (slots : Slots) (command : Command) (slot f : ℕ) → held (slots_after_one slots command) slot ≡ Some f → (codes f command ≡ true) ⊎ (held slots slot ≡ Some f)
 held-after_one slots (Show shown) slot f h = inr h
 held-after_one slots (Code frame kind refs refresh shown) slot f h =
     elim (cases_lt slot (size slots)) [
@@ -55,7 +55,7 @@ held-after slots (command ∷ commands) slot f h =
           ]
     ]
 
-none-replicate : (n slot : ℕ) → held (replicate n None) slot ≡ None
+pub none-replicate : (n slot : ℕ) → held (replicate n None) slot ≡ None
 none-replicate zero slot = refl
 none-replicate (suc n) zero = refl
 none-replicate (suc n) (suc slot) = none-replicate n slot

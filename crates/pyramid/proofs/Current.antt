@@ -1,5 +1,5 @@
 -- After a key each slot holds a frame of its GOP, and a show command shows the frame of its position.
-use Rattle.std.proofs.Common.{◌≡◌, ℕ, ◌+◌, ◌*◌, ◌^◌, ◌<◌, ◌≤◌, Bool, true, false, cond, ltb, List, [], ◌∷◌, ◌++◌, length as size, map, filter, take, Option, Some, refl, sym, ap, ◌∙◌, subst, arith, zero, suc}
+use Rattle.std.proofs.Common.{◌≡◌, ℕ, ◌+◌, ◌<◌, ◌≤◌, Bool, true, false, cond, ltb, List, [], ◌∷◌, ◌++◌, length as size, map, filter, take, Option, Some, refl, sym, ap, ◌∙◌, subst, arith, zero, suc}
 use Rattle.std.specs.Option.{IsSomeAnd}
 use Rattle.std.specs.List.{AllByRecursion}
 use Rattle.std.proofs.lemmas.Bool.{ltb-true}
@@ -7,13 +7,15 @@ use Rattle.pyramid.specs.declared.command.Command.{Command}
 use Rattle.pyramid.specs.declared.command.Command.TheVariants.{Code, Show}
 use Rattle.pyramid.specs.declared.rows.Row.{Row}
 use Rattle.pyramid.specs.Numbers.{Numbers}
-use Rattle.pyramid.specs.Places.{slot_of, rows_of}
-use Rattle.pyramid.specs.Commands.{code_of, command_of}
+use Rattle.pyramid.specs.Levels.{slot_of}
+use Rattle.pyramid.specs.Positions.{row_position}
+use Rattle.pyramid.specs.Rows.{rows}
+use Rattle.pyramid.specs.RowCommand.{code_of, command_of}
 use Rattle.pyramid.specs.Gop.{group, groups, group_count, gop}
 use Rattle.pyramid.specs.Display.{Slots, held, refreshed, slots_after_one, slots_after}
-use Rattle.pyramid.specs.Moments.{AllHold}
+use Rattle.pyramid.specs.MidGop.{AllHold}
 use Rattle.pyramid.proofs.Machine.{bit, length-refreshed, held-refreshed}
-use Rattle.pyramid.proofs.Replay.{every_bit}
+use Rattle.pyramid.proofs.Bits.{every_bit}
 
 -- a frame that is coded is one of the GOP's
 abbrev pub CodesWithin : ℕ → ℕ → Command → Type 0
@@ -28,9 +30,9 @@ either_within low high frame true o h k = h
 either_within low high frame false o h k = k
 
 -- eight slots that hold frames of the GOP
-record Holds (slots : Slots) (low high : ℕ) : Type 0 where
-  eight : size slots ≡ 8
-  each : AllHold slots low high
+pub record Holds (slots : Slots) (low high : ℕ) : Type 0 where
+  pub eight : size slots ≡ 8
+  pub each : AllHold slots low high
 
 holds-refreshed : (bits frame : ℕ) (slots : Slots) (low high : ℕ) → Holds slots low high → (low ≤ frame) × (frame < high) → Holds (refreshed bits frame slots) low high
 holds-refreshed bits frame slots low high h k = record {
@@ -41,7 +43,7 @@ holds-refreshed bits frame slots low high h k = record {
       subst P (sym (held-refreshed bits frame slots slot (omega arith))) (either_within low high frame (bit bits slot) (held slots slot) k (h.each slot small));
 }
 
-holds-after_one : (slots : Slots) (command : Command) (low high : ℕ) → Holds slots low high → CodesWithin low high command → Holds (slots_after_one slots command) low high
+pub holds-after_one : (slots : Slots) (command : Command) (low high : ℕ) → Holds slots low high → CodesWithin low high command → Holds (slots_after_one slots command) low high
 holds-after_one slots (Code frame kind refs refresh shown) low high h k = holds-refreshed refresh frame slots low high h k
 holds-after_one slots (Show slot) low high h k = h
 
@@ -79,19 +81,19 @@ shown_or_coded false low high slot command h = h
 
 each-group : (numbers : Numbers) (start length number : ℕ) → Each start (start + length) (group numbers start length number)
 each-group numbers start length number =
-    each-rows start (start + length) (command_of numbers start number) (λ r. ltb (2 ^ numbers.depth * number + r.offset) length)
+    each-rows start (start + length) (command_of numbers start number) (λ r. ltb (row_position numbers number r) length)
     (λ r e.
-    let position = 2 ^ numbers.depth * number + r.offset in
+    let position = row_position numbers number r in
     let below = ltb-true position length e in
-    shown_or_coded r.existing start (start + length) (slot_of numbers.depth position) (code_of numbers start number r position) (omega arith, omega (arith, below)))
-    (rows_of numbers.depth)
+    shown_or_coded r.existing start (start + length) (slot_of numbers.depth position) (code_of numbers start number r) (omega arith, omega (arith, below)))
+    (rows numbers.depth)
 
 each-groups : (numbers : Numbers) (start length count : ℕ) → Each start (start + length) (groups numbers start length count)
 each-groups numbers start length zero = tt
 each-groups numbers start length (suc count) =
     each-append start (start + length) (groups numbers start length count) (group numbers start length count) (each-groups numbers start length count) (each-group numbers start length count)
 
-key-holds : (slots : Slots) (start length : ℕ) → size slots ≡ 8 → 1 ≤ length → Holds (refreshed 255 start slots) start (start + length)
+pub key-holds : (slots : Slots) (start length : ℕ) → size slots ≡ 8 → 1 ≤ length → Holds (refreshed 255 start slots) start (start + length)
 key-holds slots start length eight some = record {
   eight = length-refreshed 255 start slots ∙ eight;
   each = λ slot small.

@@ -1,19 +1,22 @@
 -- A GOP is the GOP from input 0, moved.
-use Rattle.std.proofs.Common.{◌≡◌, ℕ, ◌+◌, ◌-◌, ◌*◌, ◌^◌, Bool, true, false, cond, List, [], ◌∷◌, ◌++◌, map, refl, sym, ap, ◌∙◌, arith, zero, suc}
+use Rattle.std.proofs.Common.{◌≡◌, ℕ, ◌+◌, ◌-◌, Bool, true, false, cond, List, [], ◌∷◌, ◌++◌, map, refl, sym, ap, ◌∙◌, arith, zero, suc}
 use Rattle.std.specs.List.{flat_map}
 use Rattle.std.proofs.lemmas.List.{map-append}
 use Rattle.pyramid.specs.declared.command.Command.{Command}
 use Rattle.pyramid.specs.declared.command.Command.TheVariants.{Show}
 use Rattle.pyramid.specs.declared.rows.Row.{Row}
 use Rattle.pyramid.specs.Numbers.{Numbers}
-use Rattle.pyramid.specs.Commands.{key_of, code_of, command_of}
-use Rattle.pyramid.specs.Places.{slot_of}
-use Rattle.pyramid.specs.Gop.{rows_within, group, groups, group_count, gop}
+use Rattle.pyramid.specs.RowCommand.{key_of, code_of, command_of}
+use Rattle.pyramid.specs.Levels.{slot_of}
+use Rattle.pyramid.specs.Positions.{row_position}
+use Rattle.pyramid.specs.Rows.{rows}
+use Rattle.pyramid.specs.Gop.{within, group, groups, group_count, gop}
 use Rattle.pyramid.specs.Plan.{start_after, starts, gop_at, plan}
-use Rattle.pyramid.specs.Closed.{moved, plan_of_moved}
+use Rattle.pyramid.specs.Moved.{moved, plan_of_moved}
 
-moved-code : (numbers : Numbers) (start number : ℕ) (row : Row) (position : ℕ) → code_of numbers start number row position ≡ moved start (code_of numbers 0 number row position)
-moved-code numbers start number row position =
+moved-code : (numbers : Numbers) (start number : ℕ) (row : Row) → code_of numbers start number row ≡ moved start (code_of numbers 0 number row)
+moved-code numbers start number row =
+    let position = row_position numbers number row in
     let e : start + position ≡ start + (0 + position) = omega arith in
     cc
 
@@ -23,8 +26,8 @@ moved-either false start here there slot e = e
 
 moved-command : (numbers : Numbers) (start number : ℕ) (row : Row) → command_of numbers start number row ≡ moved start (command_of numbers 0 number row)
 moved-command numbers start number row =
-    let position = 2 ^ numbers.depth * number + row.offset in
-    moved-either row.existing start (code_of numbers start number row position) (code_of numbers 0 number row position) (slot_of numbers.depth position) (moved-code numbers start number row position)
+    let slot = slot_of numbers.depth (row_position numbers number row) in
+    moved-either row.existing start (code_of numbers start number row) (code_of numbers 0 number row) slot (moved-code numbers start number row)
 
 moved-rows : (numbers : Numbers) (start number : ℕ) (rows : List Row) → map (command_of numbers start number) rows ≡ map (moved start) (map (command_of numbers 0 number) rows)
 moved-rows numbers start number [] = refl
@@ -37,7 +40,7 @@ moved-groups : (numbers : Numbers) (start length count : ℕ) → groups numbers
 moved-groups numbers start length zero = refl
 moved-groups numbers start length (suc count) =
     ap (λ s. s ++ group numbers start length count) (moved-groups numbers start length count)
-    ∙ ap (λ s. map (moved start) (groups numbers 0 length count) ++ s) (moved-rows numbers start count (rows_within numbers length count))
+    ∙ ap (λ s. map (moved start) (groups numbers 0 length count) ++ s) (moved-rows numbers start count (within numbers length count (rows numbers.depth)))
     ∙ sym (map-append (moved start) (groups numbers 0 length count) (group numbers 0 length count))
 
 pub gop-moved : (numbers : Numbers) (start length : ℕ) → gop numbers start length ≡ map (moved start) (gop numbers 0 length)

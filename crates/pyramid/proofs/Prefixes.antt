@@ -2,12 +2,13 @@
 use Rattle.std.proofs.Common.{◌≡◌, ℕ, ◌+◌, Bool, true, false, cond, List, [], ◌∷◌, ◌++◌, length as size, take, drop, Option, None, Some, refl, sym, ap, ◌∙◌, subst, arith, zero, suc}
 use Rattle.std.specs.Prelude.{is_some}
 use Rattle.std.specs.Option.{option_to_list}
-use Rattle.std.specs.List.{range_with_len, count_by}
+use Rattle.std.specs.List.{range_with_len}
 use Rattle.std.proofs.lemmas.List.{take-append-drop, length-append}
-use Rattle.std.proofs.lemmas.List.Sums.{sum_by-append}
 use Rattle.pyramid.specs.declared.command.Command.{Command}
 use Rattle.pyramid.specs.declared.command.Command.TheVariants.{Code, Show}
 use Rattle.pyramid.specs.Display.{Slots, held, names_full, shown_by, slots_after_one, accepts, slots_after, shown, shows, showing}
+use Rattle.pyramid.specs.Playable.{InOrder}
+use Rattle.pyramid.proofs.Lists.{count-cons}
 use Rattle.pyramid.proofs.Machine.{Replays, first, second, accepts-append, shown-append}
 
 count_option : (o : Option ℕ) → is_some o ≡ true → size (option_to_list o) ≡ 1
@@ -22,17 +23,6 @@ count_shown false frame = refl
 pub shown_by-count : (slots : Slots) (command : Command) → names_full slots command ≡ true → size (shown_by slots command) ≡ cond (shows command) 1 0
 shown_by-count slots (Code frame kind refs refresh shown) h = count_shown shown frame
 shown_by-count slots (Show slot) h = count_option (held slots slot) h
-
-abbrev pub ones : (Command → Bool) → Command → ℕ
-ones test command = cond (test command) 1 0
-
-pub count-cons : (test : Command → Bool) (command : Command) (commands : List Command) → count_by test (command ∷ commands) ≡ cond (test command) 1 0 + count_by test commands
-count-cons test command commands =
-    let e : 0 + cond (test command) 1 0 ≡ cond (test command) 1 0 = omega arith in
-    sum_by-append (ones test) (command ∷ []) commands ∙ ap (λ n. n + count_by test commands) e
-
-pub count-append : (test : Command → Bool) (xs ys : List Command) → count_by test (xs ++ ys) ≡ count_by test xs + count_by test ys
-count-append test xs ys = sum_by-append (ones test) xs ys
 
 pub shown-count : (slots : Slots) (commands : List Command) → accepts slots commands ≡ true → size (shown slots commands) ≡ showing commands
 shown-count slots [] h = refl
@@ -61,11 +51,6 @@ part-of-range (x ∷ xs) ys zs a (suc n) h =
     let tail : xs ++ (ys ++ zs) ≡ range_with_len (a + 1) n = cc in
     let e : a + 1 + size xs ≡ a + suc (size xs) = omega arith in
     part-of-range xs ys zs (a + 1) n tail ∙ ap (λ b. range_with_len b (size ys)) e
-
--- commands that are accepted, and show the numbers from `low` on in order
-pub record InOrder (slots : Slots) (commands : List Command) (low count : ℕ) : Type 0 where
-  pub accepted : accepts slots commands ≡ true
-  pub showed : shown slots commands ≡ range_with_len low count
 
 abbrev pub from_replay : (After : Slots → Type 0) (slots : Slots) (commands : List Command) (low count : ℕ) → Replays After slots commands (range_with_len low count) → InOrder slots commands low count
 from_replay After slots commands low count r = record { accepted = r.accepted; showed = r.showed }

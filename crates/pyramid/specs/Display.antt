@@ -1,7 +1,7 @@
 -- A display machine: eight slots, each empty or holding the number of a frame.
-use Rattle.std.specs.Prelude.{ℕ, ◌/◌, ◌%◌, Bool, true, false, not, ◌==◌, ◌&&◌, if◌then◌else◌, List, [], ◌∷◌, ◌++◌, replicate, Option, None, Some, is_some, slice_index_or}
+use Rattle.std.specs.Prelude.{ℕ, ◌+◌, ◌/◌, ◌%◌, Bool, true, false, not, ◌==◌, ◌&&◌, if◌then◌else◌, List, [], ◌∷◌, ◌++◌, replicate, Option, None, Some, is_some, slice_index_or}
 use Rattle.std.specs.Option.{option_to_list}
-use Rattle.std.specs.List.{list_all, count_by}
+use Rattle.std.specs.List.{list_all, find, count_by}
 use Rattle.pyramid.specs.declared.command.Command.{Command}
 use Rattle.pyramid.specs.declared.command.Command.TheVariants.{Code, Show}
 
@@ -23,8 +23,18 @@ refreshed bits frame (slot ∷ slots) =
 
 -- every slot that the command names is full
 abbrev pub names_full : Slots → Command → Bool
-names_full slots (Code frame kind refs refresh shown) = list_all (λ slot. is_some (held slots slot)) refs
+names_full slots (Code frame kind refs refresh shown) =
+    list_all (λ slot. is_some (held slots slot)) refs
 names_full slots (Show slot) = is_some (held slots slot)
+
+-- the slots that a command names, in order
+abbrev pub named_slots : Command → List ℕ
+named_slots (Code frame kind refs refresh shown) = refs
+named_slots (Show slot) = slot ∷ []
+
+-- the first of these that is empty, if there is one
+abbrev pub first_empty : Slots → Command → Option ℕ
+first_empty slots command = find (λ slot. not (is_some (held slots slot))) (named_slots command)
 
 -- the slots after a command
 abbrev pub slots_after_one : Slots → Command → Slots
@@ -36,10 +46,23 @@ abbrev pub shown_by : Slots → Command → List ℕ
 shown_by slots (Code frame kind refs refresh shown) = if shown then frame ∷ [] else []
 shown_by slots (Show slot) = option_to_list (held slots slot)
 
+-- a refusal at once, or else one further on
+abbrev pub refused_or : Option ℕ → Option (ℕ × ℕ) → Option (ℕ × ℕ)
+refused_or (Some slot) later = Some (0, slot)
+refused_or None None = None
+refused_or None (Some place) = Some (place.0 + 1, place.1)
+
 -- whether the machine accepts the commands: no command names an empty slot
 abbrev pub accepts : Slots → List Command → Bool
 accepts slots [] = true
-accepts slots (command ∷ commands) = names_full slots command && accepts (slots_after_one slots command) commands
+accepts slots (command ∷ commands) =
+    names_full slots command && accepts (slots_after_one slots command) commands
+
+-- the first command that the machine doesn't accept, by its index, and the first empty slot that it names
+abbrev pub first_refused : Slots → List Command → Option (ℕ × ℕ)
+first_refused slots [] = None
+first_refused slots (command ∷ commands) =
+    refused_or (first_empty slots command) (first_refused (slots_after_one slots command) commands)
 
 -- the slots after the commands
 abbrev pub slots_after : Slots → List Command → Slots
@@ -49,7 +72,8 @@ slots_after slots (command ∷ commands) = slots_after (slots_after_one slots co
 -- the frames that the commands show, in order
 abbrev pub shown : Slots → List Command → List ℕ
 shown slots [] = []
-shown slots (command ∷ commands) = shown_by slots command ++ shown (slots_after_one slots command) commands
+shown slots (command ∷ commands) =
+    shown_by slots command ++ shown (slots_after_one slots command) commands
 
 -- whether a command shows a frame
 abbrev pub shows : Command → Bool

@@ -1,11 +1,22 @@
-pub mod Closed
-pub mod Commands
+-- The words of a plan, in the order in which they are best read: Numbers, Levels, Rows, Positions, RowCommand, Gop, Plan;
+-- Known, which Counted counts; Display, Playable and NamedPositions; the laws over both in Laws, with MidGop and Moved.
+-- Settings gives the numbers.
+pub mod AreSlots
+pub mod Begins
+pub mod Counted
 pub mod Display
 pub mod Gop
-pub mod Moments
+pub mod Known
+pub mod Laws
+pub mod Levels
+pub mod MidGop
+pub mod Moved
+pub mod NamedPositions
 pub mod Numbers
-pub mod Places
 pub mod Plan
+pub mod Playable
+pub mod Positions
 pub mod Refs
-pub mod RefsOf
+pub mod RowCommand
+pub mod Rows
 pub mod Settings

@@ -15,6 +15,10 @@ group_inputs numbers = 2 ^ numbers.depth
 abbrev pub group_places : Numbers → ℕ
 group_places numbers = 2 ^ numbers.depth + numbers.depth
 
--- how far ahead of a frame the next key is to be known
+-- how far ahead of the first frame of a group the next key is to be known
 abbrev pub keyframe_distance : Numbers → ℕ
 keyframe_distance numbers = 2 ^ numbers.depth + 1
+
+-- how many inputs after a position have come when it is decided whether it is a key
+abbrev pub ahead : Numbers → ℕ
+ahead numbers = 2 ^ numbers.depth + 2

@@ -1,11 +1,13 @@
 -- From settings to numbers.
-use Rattle.std.specs.Prelude.{ℕ, true, if◌then◌else◌, ◌==◌}
+use Rattle.std.specs.Prelude.{if◌then◌else◌}
 use Rattle.av1_settings.specs.declared.encoder.EncoderConfig.{EncoderConfig}
+use Rattle.av1_settings.specs.Settings.{multiref}
 use Rattle.pyramid.specs.Numbers.{Numbers}
 
+-- no reordering with low latency, else a pyramid of depth 2
 abbrev pub numbers_of : EncoderConfig → Numbers
-numbers_of enc = record { depth = 2; multiref = true; switch_interval = 0 }
-
--- the greatest distance of two keys, where a maximum of 0 stands for the greatest that there is
-abbrev pub interval_of : EncoderConfig → ℕ
-interval_of enc = if enc.max_key_frame_interval == 0 then 715827882 else enc.max_key_frame_interval
+numbers_of enc = record {
+  depth = if enc.low_latency then 0 else 2;
+  multiref = multiref enc;
+  switch_interval = enc.switch_frame_interval;
+}

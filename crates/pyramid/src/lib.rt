@@ -1,18 +1,21 @@
 //! The frame pyramid: where each frame stands in its GOP, which slots it names and refreshes, and the plan of a session.
+//!
+//! Lemmas of crates above cite `specs/` and `proofs/PublicLaws`, and nothing else of this crate's proofs.
 #![tactic(auto)]
 
 mod command;
-mod commands;
-mod gops;
 mod inter_config;
+mod known;
 pub mod laws;
-mod references;
+mod named;
+mod plans;
 mod refs;
+mod row_command;
 mod rows;
 #[cfg(test)]
 mod tests;
 
 pub use command::Command;
-pub use gops::plan;
 pub use inter_config::InterConfig;
+pub use plans::plan;
 pub use refs::Refs;

@@ -1,5 +1,5 @@
-ghost use Rattle.std.specs.Prelude.{◌≡◌, ◌<◌, [], ◌∷◌, length, slice_index, if◌then◌else◌};
-ghost use Rattle.pyramid.specs.RefsOf.{are_slots};
+ghost use Rattle.std.specs.Prelude.{◌≡◌, ◌<◌, ◌≤◌, [], ◌∷◌, length, slice_index, if◌then◌else◌, IsTrue};
+ghost use Rattle.pyramid.specs.AreSlots.{are_slots};
 
 use std::marker::Model;
 
@@ -11,23 +11,27 @@ enum Slots {
     Three(u8, u8, u8),
 }
 
-/// At most three reference slots, in order (ref_frame_idx, each slot once). Contracts see the list of the slots.
+/// At most three reference slots, in order (ref_frame_idx, each slot once). Contracts see the list of the slots, which
+/// are at most 7 and distinct.
 #[derive(Clone, Copy, Debug, PartialEq, Eq)]
 pub struct Refs {
     slots: Slots,
 }
 
 impl Model for Refs {
-    ghost use Rattle.std.specs.Prelude.{List, ℕ};
+    ghost use Rattle.std.specs.Prelude.{List, ℕ, IsTrue};
     ghost use Rattle.std.specs.Coded.{coded_list, coded_ℕ};
 
     ghost Value = { List ℕ };
 
     ghost coded = { coded_list coded_ℕ };
 
+    ghost use Rattle.pyramid.specs.AreSlots.{are_slots};
     ghost use Rattle.pyramid.specs.Refs.{slots_listed, slots_of, slots_of-slots_listed};
 
     ghost view = { λ r. slots_listed r.slots };
+
+    ghost invariant = { λ r. IsTrue (are_slots (slots_listed r.slots)) };
 
     ghost inverse = { λ slots. record { slots = slots_of slots } };
 
@@ -51,6 +55,7 @@ impl Refs {
     /// The number of slots, 0 to 3.
     pub fn len(&self) -> usize
         ensures value { result ≡ length self.now }
+        ensures slots { IsTrue (are_slots self.now) }
     {
         match self.slots {
             Slots::Zero => 0,
@@ -63,7 +68,8 @@ impl Refs {
     /// The slot at this place.
     pub fn get(&self, i: usize) -> u8
         requires { i < length self.now }
-        ensures { result ≡ slice_index self.now i }
+        ensures value { result ≡ slice_index self.now i }
+        ensures small { result ≤ 7 }
     {
         match self.slots {
             Slots::Zero => 0,
@@ -75,15 +81,16 @@ impl Refs {
 }
 
 impl Refs {
-    /// No slot.
+    // No slot.
     pub(crate) fn none() -> Refs
         ensures { result ≡ [] }
     {
         Refs { slots: Slots::Zero }
     }
 
-    /// One slot.
+    // One slot.
     pub(crate) fn of_one(a: u8) -> Refs
+        requires { IsTrue (are_slots (a ∷ [])) }
         ensures { result ≡ a ∷ [] }
     {
         Refs {
@@ -91,8 +98,9 @@ impl Refs {
         }
     }
 
-    /// Two slots.
+    // Two slots.
     pub(crate) fn of_two(a: u8, b: u8) -> Refs
+        requires { IsTrue (are_slots (a ∷ b ∷ [])) }
         ensures { result ≡ a ∷ b ∷ [] }
     {
         Refs {
@@ -100,8 +108,9 @@ impl Refs {
         }
     }
 
-    /// Three slots.
+    // Three slots.
     pub(crate) fn of_three(a: u8, b: u8, c: u8) -> Refs
+        requires { IsTrue (are_slots (a ∷ b ∷ c ∷ [])) }
         ensures { result ≡ a ∷ b ∷ c ∷ [] }
     {
         Refs {

@@ -1,3 +1,6 @@
+ghost use Rattle.std.specs.Prelude.{◌≡◌};
+ghost use Rattle.pyramid.specs.Rows.{rows};
+
 /// A place of a group.
 #[derive(Clone, Copy)]
 pub struct Row {
@@ -13,8 +16,17 @@ pub struct Row {
     pub existing: bool,
 }
 
-/// The place table of a pyramid of depth 2: four inputs in six places.
-pub const ROWS: [Row; 6] = [
+/// The place table of depth 0: one input in one place.
+const ROWS_OF_DEPTH_ZERO: [Row; 1] = [Row {
+    index: 0,
+    offset: 1,
+    level: 0,
+    shown: true,
+    existing: false,
+}];
+
+/// The place table of depth 2: four inputs in six places.
+const ROWS_OF_DEPTH_TWO: [Row; 6] = [
     Row {
         index: 0,
         offset: 4,
@@ -58,3 +70,17 @@ pub const ROWS: [Row; 6] = [
         existing: true,
     },
 ];
+
+// The place table of a depth, without rows where there is none.
+#[tactic(auto, unfolding(crate::specs::Rows::rows))]
+pub(crate) fn rows(depth: u32) -> &'static [Row]
+    ensures { result.now ≡ rows depth }
+{
+    if depth == 0 {
+        return &ROWS_OF_DEPTH_ZERO;
+    }
+    if depth == 2 {
+        return &ROWS_OF_DEPTH_TWO;
+    }
+    &[]
+}

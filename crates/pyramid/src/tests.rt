@@ -1,14 +1,29 @@
+#![tactic(auto, unfolding(crate::specs::Rows::rows))]
+
 ghost use Rattle.std.specs.Prelude.{◌<◌};
 
 use crate::{Command, InterConfig, Refs, plan};
 use av1_settings::FrameType;
 use std::test::Fail;
 
-/// A pyramid of depth 2 with several references.
-const PYRAMID: InterConfig = InterConfig {
+// A pyramid of depth 2 with several references.
+const REORDERING: InterConfig = InterConfig {
     depth: 2,
     multiref: true,
     switch_interval: 0,
+};
+
+// Pyramids of depth 0 where every second place holds a switch frame, with several references and with one.
+const SWITCHING: InterConfig = InterConfig {
+    depth: 0,
+    multiref: true,
+    switch_interval: 2,
+};
+
+const SINGLE: InterConfig = InterConfig {
+    depth: 0,
+    multiref: false,
+    switch_interval: 2,
 };
 
 fn key(frame: u64) -> Command {
@@ -31,11 +46,21 @@ fn inter(frame: u64, refs: Refs, refresh: u8, shown: bool) -> Command {
     }
 }
 
+fn switch(frame: u64, refs: Refs) -> Command {
+    Command::Code {
+        frame,
+        kind: FrameType::SWITCH,
+        refs,
+        refresh: 255,
+        shown: true,
+    }
+}
+
 fn show(slot: u8) -> Command {
     Command::Show { slot }
 }
 
-/// The commands of a GOP of five inputs.
+// The commands of a GOP of five inputs.
 fn whole_group(start: u64) -> [Command; 7]
     requires { start < 100 }
 {
@@ -52,7 +77,7 @@ fn whole_group(start: u64) -> [Command; 7]
 
 #[test]
 fn ten_frames_in_two_gops(rt: HostRuntime) -> Result<(), Fail> {
-    let commands = plan(rt.alloc(), &PYRAMID, 5, 10, &[0])?;
+    let commands = plan(rt.alloc(), &REORDERING, 5, 10, &[0])?;
     assert_eq!(rt; commands.len(), 14);
     assert_eq!(rt; &commands.as_slice()[..7], whole_group(0).as_slice());
     assert_eq!(rt; &commands.as_slice()[7..], whole_group(5).as_slice());
@@ -61,7 +86,7 @@ fn ten_frames_in_two_gops(rt: HostRuntime) -> Result<(), Fail> {
 
 #[test]
 fn seven_frames_cut_the_group(rt: HostRuntime) -> Result<(), Fail> {
-    let commands = plan(rt.alloc(), &PYRAMID, 5, 7, &[0])?;
+    let commands = plan(rt.alloc(), &REORDERING, 5, 7, &[0])?;
     assert_eq!(rt; commands.len(), 9);
     assert_eq!(rt; &commands.as_slice()[..7], whole_group(0).as_slice());
     let rest = [key(5), inter(6, Refs::of_three(0, 4, 5), 32, true)];
@@ -71,7 +96,7 @@ fn seven_frames_cut_the_group(rt: HostRuntime) -> Result<(), Fail> {
 
 #[test]
 fn forced_key_at_two(rt: HostRuntime) -> Result<(), Fail> {
-    let commands = plan(rt.alloc(), &PYRAMID, 5, 5, &[0, 2])?;
+    let commands = plan(rt.alloc(), &REORDERING, 5, 5, &[0, 2])?;
     let wanted = [
         key(0),
         inter(1, Refs::of_three(0, 4, 5), 32, true),
@@ -86,7 +111,7 @@ fn forced_key_at_two(rt: HostRuntime) -> Result<(), Fail> {
 
 #[test]
 fn forced_key_at_one(rt: HostRuntime) -> Result<(), Fail> {
-    let commands = plan(rt.alloc(), &PYRAMID, 5, 5, &[0, 1])?;
+    let commands = plan(rt.alloc(), &REORDERING, 5, 5, &[0, 1])?;
     let wanted = [
         key(0),
         key(1),
@@ -101,7 +126,7 @@ fn forced_key_at_one(rt: HostRuntime) -> Result<(), Fail> {
 
 #[test]
 fn interval_of_one(rt: HostRuntime) -> Result<(), Fail> {
-    let commands = plan(rt.alloc(), &PYRAMID, 1, 3, &[0])?;
+    let commands = plan(rt.alloc(), &REORDERING, 1, 3, &[0])?;
     assert_eq!(rt; commands.as_slice(), [key(0), key(1), key(2)].as_slice());
     Ok(())
 }
@@ -118,18 +143,110 @@ fn slots_are_checked(rt: HostRuntime) {
 }
 
 #[test]
-fn places_of_ten_frames(rt: HostRuntime) {
-    let inputs = [0, 4, 2, 1, 2, 3, 4];
-    for (place, input) in inputs.iter().enumerate() {
-        assert_eq!(rt; PYRAMID.get_input_frameno(place as u64, 5), 5 + *input);
-    }
-    let index = PYRAMID.get_idx_in_group_output(11);
+fn inputs_of_a_group(rt: HostRuntime) {
+    let inputs = [
+        REORDERING.get_input_frameno(0, 5),
+        REORDERING.get_input_frameno(1, 5),
+        REORDERING.get_input_frameno(2, 5),
+        REORDERING.get_input_frameno(3, 5),
+    ];
+    assert_eq!(rt; inputs, [5, 9, 7, 6]);
+}
+
+#[test]
+fn place_eleven(rt: HostRuntime) {
+    let index = REORDERING.get_idx_in_group_output(11);
     assert_eq!(rt; index, 4);
-    assert_eq!(rt; PYRAMID.get_order_hint(11, index), 7);
-    assert_eq!(rt; PYRAMID.get_level(index), 2);
-    assert!(rt; PYRAMID.get_show_frame(index));
-    assert!(rt; !PYRAMID.get_show_existing_frame(index));
-    assert_eq!(rt; PYRAMID.get_slot_idx(2, 7), 5);
-    assert_eq!(rt; PYRAMID.refs_of(2, 7), Refs::of_three(4, 2, 5));
-    assert_eq!(rt; PYRAMID.keyframe_lookahead_distance(), 5);
+    assert_eq!(rt; REORDERING.get_order_hint(11, 4), 7);
+    assert_eq!(rt; REORDERING.get_level(4), 2);
+}
+
+#[test]
+fn a_hidden_frame_and_where_it_is_shown(rt: HostRuntime) {
+    let shown = [REORDERING.get_show_frame(1), REORDERING.get_show_frame(3)];
+    assert_eq!(rt; shown, [false, true]);
+    assert!(rt; !REORDERING.get_show_existing_frame(1));
+    assert!(rt; REORDERING.get_show_existing_frame(3));
+}
+
+#[test]
+fn slots_of_position_seven(rt: HostRuntime) {
+    assert_eq!(rt; REORDERING.get_slot_idx(2, 7), 5);
+    let level = REORDERING.level(7);
+    assert_eq!(rt; level, 2);
+    assert_eq!(rt; REORDERING.refs_of(level, 7), Refs::of_three(4, 2, 5));
+}
+
+#[test]
+fn how_far_ahead(rt: HostRuntime) {
+    assert_eq!(rt; REORDERING.keyframe_lookahead_distance(), 5);
+    assert_eq!(rt; REORDERING.ahead(), 6);
+    assert_eq!(rt; SWITCHING.ahead(), 3);
+}
+
+#[test]
+fn switch_frames_without_reordering(rt: HostRuntime) -> Result<(), Fail> {
+    let commands = plan(rt.alloc(), &SWITCHING, 5, 5, &[0])?;
+    let wanted = [
+        key(0),
+        inter(1, Refs::of_two(0, 3), 2, true),
+        switch(2, Refs::of_two(1, 0)),
+        inter(3, Refs::of_two(2, 1), 8, true),
+        switch(4, Refs::of_two(3, 2)),
+    ];
+    assert_eq!(rt; commands.as_slice(), wanted.as_slice());
+    Ok(())
+}
+
+#[test]
+fn one_reference_without_multiref(rt: HostRuntime) -> Result<(), Fail> {
+    let commands = plan(rt.alloc(), &SINGLE, 2, 3, &[0])?;
+    let wanted = [key(0), inter(1, Refs::of_one(0), 2, true), key(2)];
+    assert_eq!(rt; commands.as_slice(), wanted.as_slice());
+    Ok(())
+}
+
+#[test]
+fn places_without_reordering(rt: HostRuntime) {
+    assert_eq!(rt; SWITCHING.get_input_frameno(3, 5), 8);
+    assert_eq!(rt; SWITCHING.get_level(0), 0);
+    assert!(rt; SWITCHING.get_show_frame(0));
+}
+
+// A group is known 6 frames behind its last position: four frames, then two shows.
+#[test]
+fn known_groups(rt: HostRuntime) {
+    assert_eq!(rt; REORDERING.coded_ahead(100, 0, &[0], 0), 0);
+    assert_eq!(rt; REORDERING.coded_ahead(100, 6, &[0], 0), 0);
+    assert_eq!(rt; REORDERING.coded_ahead(100, 7, &[0], 0), 1);
+    assert_eq!(rt; REORDERING.coded_ahead(100, 10, &[0], 0), 1);
+    assert_eq!(rt; REORDERING.coded_ahead(100, 11, &[0], 0), 5);
+    assert_eq!(rt; REORDERING.coded_ahead(100, 14, &[0], 0), 5);
+    assert_eq!(rt; REORDERING.coded_ahead(100, 15, &[0], 0), 9);
+}
+
+#[test]
+fn known_behind_the_first_commands(rt: HostRuntime) {
+    assert_eq!(rt; REORDERING.coded_ahead(100, 15, &[0], 1), 8);
+    assert_eq!(rt; REORDERING.coded_ahead(100, 15, &[0], 4), 5);
+    assert_eq!(rt; REORDERING.coded_ahead(100, 15, &[0], 5), 5);
+    assert_eq!(rt; REORDERING.coded_ahead(100, 15, &[0], 12), 0);
+    assert_eq!(rt; REORDERING.coded_ahead(100, 15, &[0], 20), 0);
+}
+
+#[test]
+fn known_keys_behind_a_gop(rt: HostRuntime) {
+    // an interval of 5: the key at 5 needs more than 14 frames, and the group behind it more than 15
+    assert_eq!(rt; REORDERING.coded_ahead(5, 10, &[0], 0), 1);
+    assert_eq!(rt; REORDERING.coded_ahead(5, 14, &[0], 0), 5);
+    assert_eq!(rt; REORDERING.coded_ahead(5, 15, &[0], 0), 6);
+    assert_eq!(rt; REORDERING.coded_ahead(5, 16, &[0], 0), 10);
+    // a key at 2: its group is cut to one frame, and known no sooner
+    assert_eq!(rt; REORDERING.coded_ahead(100, 10, &[0, 2], 0), 1);
+    assert_eq!(rt; REORDERING.coded_ahead(100, 11, &[0, 2], 0), 2);
+    assert_eq!(rt; REORDERING.coded_ahead(100, 15, &[0, 2], 0), 7);
+    // without reordering
+    assert_eq!(rt; SWITCHING.coded_ahead(5, 4, &[0], 0), 1);
+    assert_eq!(rt; SWITCHING.coded_ahead(5, 8, &[0], 0), 5);
+    assert_eq!(rt; SWITCHING.coded_ahead(5, 9, &[0], 0), 6);
 }

@@ -1,5 +1,5 @@
-use Rattle.pyramid.proofs.Counting.{hiding-gop}
+use Rattle.pyramid.proofs.PublicLaws.{gop_hides}
 use Rattle.pyramid.proofs.laws.gop_hides.Goals as goal
 
 pub returns : goal.returns
-returns c = hiding-gop
+returns c = gop_hides
