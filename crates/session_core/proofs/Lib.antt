@@ -1,12 +1,19 @@
-pub mod Along
-pub mod HeadlineLaw
-pub mod History
-pub mod Keys
-pub mod PlanLaw
-pub mod Receives
-pub mod Replay
-pub mod Runs
-pub mod Sound
-pub mod StateLemmas
-pub mod Steps
-pub mod Taken
+mod Along
+mod CallLoop
+mod Completion
+mod Decided
+mod HeadlineLaw
+mod History
+mod Lookahead
+mod KnownBehind
+mod PlanAt
+mod PlanFronts
+mod RunHistory
+pub mod SessionLaws
+mod Sound
+mod SoundTurns
+mod StateLemmas
+mod Steps
+mod Taken
+mod WaitingKinds
+mod Widen

@@ -1,103 +1,226 @@
 -- Lemmas on the state of a session.
-use Rattle.std.proofs.Common.{◌≡◌, ℕ, ◌+◌, ◌-◌, ◌≤◌, ◌<◌, suc, zero, true, false, List, [], ◌∷◌, ◌++◌, map, length, get_or, refl, sym, ◌∙◌, ap, arith, Some}
-use Rattle.std.specs.Option.{option_map}
+use Rattle.std.proofs.Common.{◌≡◌, ℕ, zero, suc, ◌+◌, ◌-◌, ◌≤◌, ◌<◌, Bool, true, false, cond, eqb, IsTrue, List, [], ◌∷◌, ◌++◌, map, filter, length, get_or, set, take, drop, All, Option, Some, IsSome, refl, sym, ◌∙◌, ap, subst, append_assoc, arith}
+use Rattle.std.specs.Option.{option_and_then, option_map}
 use Rattle.std.specs.List.{slice_get, range_with_len}
+use Rattle.std.proofs.lemmas.Bool.{le-ltb, ne_eqb}
+use Rattle.std.proofs.Math.Seq.{drop-append_seam, take-append_seam, take-length}
+use Rattle.std.proofs.lemmas.List.{map-set, map-append, length-append}
+use Rattle.std.proofs.lemmas.List.Elements.{All-nil, All-cons, filter-append}
 use Rattle.std.proofs.lemmas.List.FromFn.{map-range_with_len_more, length-map-range_with_len}
 use Rattle.std.proofs.lemmas.Option.{slice_get-map, slice_get_read}
-use Rattle.std.proofs.lemmas.List.{length-map}
 use Rattle.av1_settings.specs.declared.encoder.EncoderConfig.{EncoderConfig}
-use Rattle.session_core.specs.declared.state.SentFrame.{SentFrame}
+use Rattle.av1_settings.specs.declared.frame_type.FrameType.{FrameType}
+use Rattle.pyramid.specs.Settings.{numbers_of}
+use Rattle.pyramid.specs.declared.command.Command.{Command}
+use Rattle.pyramid.specs.declared.command.Command.TheVariants.{Code, Show}
+use Rattle.session_core.specs.declared.transcript.LogEntry.{LogEntry}
+use Rattle.session_core.specs.declared.state.SessionState.{SessionState}
+use Rattle.session_core.specs.declared.state.WaitingFrame.{WaitingFrame}
 use Rattle.session_core.specs.declared.transcript.Decision.{Decision}
-use Rattle.session_core.specs.Moments.{Accepted, Moment, decided_count, decision_at, decisions_on}
-use Rattle.session_core.specs.States.{accepted_of}
+use Rattle.session_core.specs.Decisions.{AreUnasked, decided_count, decisions_at, key_positions, keys_of}
+use Rattle.session_core.specs.Moments.{Waiting, Moment}
+use Rattle.session_core.specs.States.{CanCode, waiting_of, moment_of, sent_decision, sent_decisions, KeepsKeys}
+use Rattle.session_core.specs.Turns.{AreMade, Decides, forced_at, noted, shown_coding, with_coding}
 
--- one more position
-pub decisions_on-more : {T : Type 0} (sent : List (Accepted T)) (p : ℕ) → 1 ≤ p →
-    decisions_on sent (p - 1) ++ decision_at sent p ∷ [] ≡ decisions_on sent p
-decisions_on-more sent p low =
-    let e : 1 + (p - 1) ≡ p = omega arith in
-    let f : p - 1 + 1 ≡ p = omega arith in
-    sym (map-range_with_len_more (decision_at sent) 1 (p - 1) p e) ∙ ap (decisions_on sent) f
+-- a frame that waits is coded
+pub noted-set : {T O : Type 0} (items : List (WaitingFrame T O)) (index : ℕ) (one : WaitingFrame T O) (kind : FrameType) →
+    index < length items → one ≡ get_or items index one →
+    map waiting_of (set items index (record one { kind = Some kind })) ≡ with_coding (map waiting_of items) index (Some (record { kind = kind }))
+noted-set items index one kind within read =
+    let there : slice_get (map waiting_of items) index ≡ Some (waiting_of one) =
+    slice_get-map waiting_of items index ∙ ap (option_map waiting_of) (slice_get_read items (length items) index one refl within read) in
+    rw (there, with_coding) (map-set waiting_of items index (record one { kind = Some kind }))
 
--- the decision on a frame
-pub decision_at-frame : {T O : Type 0} (items : List (SentFrame T O)) (p : ℕ) (frame : SentFrame T O) →
-    slice_get items p ≡ Some frame →
-    decision_at (map accepted_of items) p ≡ record { position = p; forced = frame.forced; key = frame.forced }
-decision_at-frame items p frame there =
-    let e : slice_get (map accepted_of items) p ≡ Some (accepted_of frame) = slice_get-map accepted_of items p ∙ ap (option_map accepted_of) there in
-    rw e refl
+pub noted-code : {T O : Type 0} (items : List (WaitingFrame T O)) (packets : ℕ) (one : WaitingFrame T O) (entry : LogEntry)
+    (frame : ℕ) (kind : FrameType) (refs : List ℕ) (refresh : ℕ) (shown : Bool) → entry.command ≡ Code frame kind refs refresh shown →
+    packets ≤ frame → frame - packets < length items → one ≡ get_or items (frame - packets) one →
+    map waiting_of (set items (frame - packets) (record one { kind = Some kind })) ≡ noted packets (map waiting_of items) entry
+noted-code items packets one entry frame kind refs refresh shown is late within read =
+    let After : Command → Type 0 = λ command.
+    map waiting_of (set items (frame - packets) (record one { kind = Some kind })) ≡ noted packets (map waiting_of items) (record entry { command = command }) in
+    subst After (sym is) (rw (le-ltb frame packets late) (noted-set items (frame - packets) one kind within read))
 
--- what equals the decisions on some positions has them by its length
-pub decisions_on-length : {T : Type 0} (decisions : List Decision) (sent : List (Accepted T)) (count : ℕ) →
-    decisions ≡ decisions_on sent count → length decisions ≡ count
-decisions_on-length decisions sent count e =
-    ap length e ∙ length-map-range_with_len (decision_at sent) 1 count
+-- the mark of a frame that waits
+pub forced-read : {T O : Type 0} (state : SessionState T O) (p : ℕ) (one : WaitingFrame T O) →
+    state.packets ≤ p → p - state.packets < length state.waiting.items → one ≡ get_or state.waiting.items (p - state.packets) one →
+    forced_at (moment_of state) p ≡ one.forced
+forced-read state p one late within read =
+    let items = state.waiting.items in
+    let there : slice_get (map waiting_of items) (p - state.packets) ≡ Some (waiting_of one) =
+    slice_get-map waiting_of items (p - state.packets)
+    ∙ ap (option_map waiting_of) (slice_get_read items (length items) (p - state.packets) one refl within read) in
+    rw (le-ltb p state.packets late, there) refl
 
-pub decisions-by-length : {T : Type 0} (decisions : List Decision) (sent : List (Accepted T)) (count : ℕ) →
-    decisions ≡ decisions_on sent count → decisions ≡ decisions_on sent (length decisions)
-decisions-by-length decisions sent count e =
-    e ∙ ap (decisions_on sent) (sym (decisions_on-length decisions sent count e))
+-- one more decision, which is a key or not
+pub keys_of-push : (accepted : ℕ) (decisions : List Decision) (one : Decision) → 0 < accepted →
+    keys_of accepted (decisions ++ one ∷ []) ≡ keys_of accepted decisions ++ cond one.key (one.position ∷ []) []
+keys_of-push accepted decisions one some =
+    let e : eqb accepted 0 ≡ false = ne_eqb accepted 0 (λ is. omega arith) in
+    rw (
+      e,
+      filter-append (λ (d : Decision). d.key) decisions (one ∷ []),
+      map-append (λ (d : Decision). d.position) (filter (λ (d : Decision). d.key) decisions) (filter (λ (d : Decision). d.key) (one ∷ [])),
+    )
+    (ap (λ (l : List ℕ). 0 ∷ (key_positions decisions ++ l)) (last one.key))
+  where
+    last : (key : Bool) → map (λ (d : Decision). d.position) (cond key (one ∷ []) []) ≡ cond key (one.position ∷ []) []
+    last true = refl
+    last false = refl
 
--- functions that agree on a range give the same list
-pub map-range-agree : {A : Type 0} (f g : ℕ → A) (a n : ℕ) → ((k : ℕ) → a ≤ k → k < a + n → f k ≡ g k) →
-    map f (range_with_len a n) ≡ map g (range_with_len a n)
-map-range-agree f g a zero agree = refl
-map-range-agree f g a (suc n) agree =
-    let first : f a ≡ g a = agree a (omega arith) (omega arith) in
-    let others = map-range-agree f g (a + 1) n (λ k low high. agree k (omega arith) (omega arith)) in
-    cc
+-- what the loop over the positions keeps, before position p
+pub record Deciding {T O : Type 0} (before now : SessionState T O) (p : ℕ) : Type 0 where
+  pub others : now ≡ record before { decisions = now.decisions; keys = now.keys }
+  pub decided : now.decisions.items
+      ≡ before.decisions.items ++ sent_decisions (moment_of before) (length before.decisions.items + 1) (p - (length before.decisions.items + 1))
+  pub keys : KeepsKeys now
 
--- a frame before the end is the same with a further one behind
-pub slice_get-append : {A : Type 0} (xs ys : List A) (k : ℕ) → k < length xs → slice_get (xs ++ ys) k ≡ slice_get xs k
-slice_get-append [] ys k within = absurd (omega arith)
-slice_get-append (x ∷ xs) ys zero within = refl
-slice_get-append (x ∷ xs) ys (suc k) within = slice_get-append xs ys k (omega arith)
+-- one turn of that loop
+pub decide-step : {T O : Type 0} (before now after : SessionState T O) (p : ℕ) (one : WaitingFrame T O) →
+    Deciding before now p → after ≡ record now { decisions = after.decisions; keys = after.keys } →
+    length before.decisions.items + 1 ≤ p → p < before.accepted →
+    before.packets + length before.waiting.items ≡ before.accepted → before.packets ≤ p →
+    one ≡ get_or now.waiting.items (p - now.packets) one →
+    after.decisions.items ≡ now.decisions.items ++ record { position = p; forced = one.forced; key = one.forced } ∷ [] →
+    after.keys.items ≡ now.keys.items ++ cond one.forced (p ∷ []) [] →
+    Deciding before after (p + 1)
+decide-step {T} {O} before now after p one so_far only from within waits late read grown keys = record {
+  others = only ∙ ap (λ (s : SessionState T O). let t : SessionState T O = record s { decisions = after.decisions; keys = after.keys } in t) so_far.others;
+  decided = grown
+      ∙ ap (λ (l : List Decision). l ++ made ∷ []) so_far.decided
+      ∙ ap (λ (d : Decision). before.decisions.items ++ sent_decisions m first (p - first) ++ d ∷ []) decision
+      ∙ append_assoc before.decisions.items (sent_decisions m first (p - first)) (sent_decision m p ∷ [])
+      ∙ ap (λ (l : List Decision). before.decisions.items ++ l) more
+      ∙ ap (λ (n : ℕ). before.decisions.items ++ sent_decisions m first n) count;
+  keys = keys
+      ∙ ap (λ (l : List ℕ). l ++ cond one.forced (p ∷ []) []) so_far.keys
+      ∙ sym (keys_of-push now.accepted now.decisions.items made some)
+      ∙ ap (λ (l : List Decision). keys_of now.accepted l) (sym grown)
+      ∙ ap (λ (n : ℕ). keys_of n after.decisions.items) (sym same_accepted);
+}
+  where
+    first : ℕ
+    first = length before.decisions.items + 1
 
-pub decision_at-append : {T : Type 0} (sent : List (Accepted T)) (accepted : Accepted T) (k : ℕ) → k < length sent →
-    decision_at (sent ++ accepted ∷ []) k ≡ decision_at sent k
-decision_at-append sent accepted k within = rw (slice_get-append sent (accepted ∷ []) k within) refl
+    m : Moment T O
+    m = moment_of before
 
--- a further frame leaves the decisions on the others
-pub decisions_on-append : {T : Type 0} (sent : List (Accepted T)) (accepted : Accepted T) (count : ℕ) → count ≤ length sent - 1 →
-    decisions_on (sent ++ accepted ∷ []) count ≡ decisions_on sent count
-decisions_on-append sent accepted count within =
-    map-range-agree (decision_at (sent ++ accepted ∷ [])) (decision_at sent) 1 count
-    (λ k low high. decision_at-append sent accepted k (omega arith))
+    made : Decision
+    made = record { position = p; forced = one.forced; key = one.forced }
 
--- one turn of the loop over positions
-pub decide-step : {T O : Type 0} (items : List (SentFrame T O)) (sent : List (Accepted T)) (before after : List Decision)
-    (p : ℕ) (frame : SentFrame T O) →
-    map accepted_of items ≡ sent → 1 ≤ p → p < length items → frame ≡ get_or items p frame →
-    before ≡ decisions_on sent (p - 1) →
-    after ≡ before ++ record { position = p; forced = frame.forced; key = frame.forced } ∷ [] →
-    after ≡ decisions_on sent (p + 1 - 1)
-decide-step {T} items sent before after p frame same low within read so_far grown =
-    let there : slice_get items p ≡ Some frame = slice_get_read items (length items) p frame refl within read in
-    let decision = decision_at-frame items p frame there in
-    let known : decision_at sent p ≡ record { position = p; forced = frame.forced; key = frame.forced } =
-    ap (λ (s : List (Accepted T)). decision_at s p) (sym same) ∙ decision in
-    let put : after ≡ decisions_on sent (p - 1) ++ decision_at sent p ∷ [] =
-    grown ∙ ap (λ (d : List Decision). d ++ record { position = p; forced = frame.forced; key = frame.forced } ∷ []) so_far
-    ∙ ap (λ (d : Decision). decisions_on sent (p - 1) ++ d ∷ []) (sym known) in
-    let last : p ≡ p + 1 - 1 = omega arith in
-    put ∙ decisions_on-more sent p low ∙ ap (decisions_on sent) last
+    read_before : one ≡ get_or before.waiting.items (p - before.packets) one
+    read_before = read ∙ ap (λ (s : SessionState T O). get_or s.waiting.items (p - s.packets) one) so_far.others
 
--- what the decisions on a moment's first positions become, once a frame was sent
-pub decisions-with-another : {T : Type 0} (decisions : List Decision) (sent after : List (Accepted T)) (accepted : Accepted T) (count : ℕ) →
-    decisions ≡ decisions_on sent count → count ≤ length sent - 1 → after ≡ sent ++ accepted ∷ [] →
-    decisions ≡ decisions_on after (length decisions)
-decisions-with-another {T} decisions sent after accepted count e within grown =
-    decisions-by-length decisions after count
-    (e ∙ sym (decisions_on-append sent accepted count within) ∙ ap (λ (s : List (Accepted T)). decisions_on s count) (sym grown))
+    decision : made ≡ sent_decision m p
+    decision =
+        ap (λ (b : Bool). let d : Decision = record { position = p; forced = b; key = b } in d)
+        (sym (forced-read before p one (omega arith) (omega arith) read_before))
 
-pub length-same-map : {A B : Type 0} (f : A → B) (xs ys : List A) → map f xs ≡ map f ys → length xs ≡ length ys
-length-same-map f xs ys same = sym (length-map xs f) ∙ ap length same ∙ length-map ys f
+    more : sent_decisions m first (p - first) ++ sent_decision m p ∷ [] ≡ sent_decisions m first (p - first + 1)
+    more = sym (map-range_with_len_more (sent_decision m) first (p - first) p (omega arith))
 
--- no position past the last frame is decided
-pub decided_count-within : {T : Type 0} (enc : EncoderConfig) (moment : Moment T) → decided_count enc moment ≤ length moment.sent - 1
-decided_count-within enc moment =
-    elim moment.flushed as (λ flushed. decided_count enc (record moment { flushed = flushed }) ≤ length moment.sent - 1)
-    [ true ↦ omega arith | false ↦ omega arith ]
+    count : p - first + 1 ≡ p + 1 - first
+    count = omega arith
 
-pub decided_count-open : {T : Type 0} (enc : EncoderConfig) (moment : Moment T) → moment.flushed ≡ false → decided_count enc moment ≡ length moment.sent - 7
-decided_count-open enc moment unflushed = rw unflushed refl
+    same_accepted : after.accepted ≡ now.accepted
+    same_accepted = ap (λ (s : SessionState T O). s.accepted) only
+
+    some : 0 < now.accepted
+    some = omega (arith, ap (λ (s : SessionState T O). s.accepted) so_far.others)
+
+-- ---- the decisions that a send or a flush makes
+
+sent-positions : {T O : Type 0} (m : Moment T O) (from count : ℕ) → map (λ decision. decision.position) (sent_decisions m from count) ≡ range_with_len from count
+sent-positions m from zero = refl
+sent-positions m from (suc count) = ap (λ (l : List ℕ). from ∷ l) (sent-positions m (from + 1) count)
+
+sent-marks : {T O : Type 0} (m : Moment T O) (from count : ℕ) →
+    map (λ decision. decision.forced) (sent_decisions m from count) ≡ map (forced_at m) (range_with_len from count)
+sent-marks m from zero = refl
+sent-marks m from (suc count) = ap (λ (l : List Bool). forced_at m from ∷ l) (sent-marks m (from + 1) count)
+
+sent-unasked : {T O : Type 0} (m : Moment T O) (from count : ℕ) → AreUnasked (sent_decisions m from count)
+sent-unasked m from zero = refl
+sent-unasked m from (suc count) = ap (λ (l : List Bool). forced_at m from ∷ l) (sent-unasked m (from + 1) count)
+
+abbrev MarkedKey : Decision → Type 0
+MarkedKey decision = IsTrue decision.forced → IsTrue decision.key
+
+sent-keys : {T O : Type 0} (m : Moment T O) (from count : ℕ) → All MarkedKey (sent_decisions m from count)
+sent-keys m from zero = All-nil MarkedKey
+sent-keys m from (suc count) =
+    let here : MarkedKey (sent_decision m from) = λ h. h in
+    All-cons MarkedKey (sent_decision m from) (sent_decisions m (from + 1) count) here (sent-keys m (from + 1) count)
+
+-- what a step knows of its decisions: up to `last`, from those before it, at a moment that is all but the decisions its end's
+pub record Made {T O : Type 0} (before middle after : Moment T O) (last : ℕ) : Type 0 where
+  pub same : after ≡ record middle { decisions = after.decisions }
+  pub decisions : after.decisions ≡ before.decisions ++ sent_decisions middle (length before.decisions + 1) (last - length before.decisions)
+  pub more : length before.decisions ≤ last
+
+made-length : {T O : Type 0} (before middle after : Moment T O) (last : ℕ) → Made before middle after last → length after.decisions ≡ last
+made-length before middle after last made =
+    let from = length before.decisions + 1 in
+    let count = last - length before.decisions in
+    let total : length before.decisions + count ≡ last = omega (arith, made.more) in
+    ap length made.decisions ∙ length-append before.decisions (sent_decisions middle from count)
+    ∙ ap (λ (n : ℕ). length before.decisions + n) (length-map-range_with_len (sent_decision middle) from count) ∙ total
+
+pub made-decides : {T O : Type 0} (enc : EncoderConfig) (before middle after : Moment T O) (last : ℕ) → Made before middle after last →
+    last ≡ decided_count (numbers_of enc) middle.accepted middle.flushed → Decides enc before after
+made-decides {T} {O} enc before middle after last made all = record {
+  kept = sym (take-append_seam before.decisions (sent_decisions middle from count)) ∙ ap (take (length before.decisions)) (sym made.decisions);
+  count = made-length before middle after last made ∙ all ∙ ap (λ (m : Moment T O). decided_count (numbers_of enc) m.accepted m.flushed) (sym made.same);
+  made = subst (λ (new : List Decision). AreMade after from new) (sym new_ones) are;
+}
+  where
+    from : ℕ
+    from = length before.decisions + 1
+
+    count : ℕ
+    count = last - length before.decisions
+
+    new_ones : drop (length before.decisions) after.decisions ≡ sent_decisions middle from count
+    new_ones = ap (drop (length before.decisions)) made.decisions ∙ drop-append_seam before.decisions (sent_decisions middle from count)
+
+    size : length (sent_decisions middle from count) ≡ count
+    size = length-map-range_with_len (sent_decision middle) from count
+
+    are : AreMade after from (sent_decisions middle from count)
+    are = record {
+      positions = sent-positions middle from count ∙ ap (range_with_len from) (sym size);
+      forced = sent-marks middle from count
+          ∙ ap (λ (m : Moment T O). map (forced_at m) (range_with_len from count)) (sym made.same)
+          ∙ ap (λ (n : ℕ). map (forced_at after) (range_with_len from n)) (sym size);
+      keys = sent-keys middle from count;
+    }
+
+-- all decisions are the first so many of themselves
+pub made-all : {T O : Type 0} (enc : EncoderConfig) (before middle after : Moment T O) (last : ℕ) → Made before middle after last →
+    last ≡ decided_count (numbers_of enc) middle.accepted middle.flushed →
+    after ≡ record middle { decisions = decisions_at (numbers_of enc) after.decisions middle.accepted middle.flushed }
+made-all {T} {O} enc before middle after last made all =
+    let whole : after.decisions ≡ decisions_at (numbers_of enc) after.decisions middle.accepted middle.flushed =
+    sym (take-length after.decisions) ∙ ap (λ (n : ℕ). take n after.decisions) (made-length before middle after last made ∙ all) in
+    made.same ∙ ap (λ (l : List Decision). let m : Moment T O = record middle { decisions = l } in m) whole
+
+pub made-unasked : {T O : Type 0} (before middle after : Moment T O) (last : ℕ) → Made before middle after last →
+    AreUnasked (drop (length before.decisions) after.decisions)
+made-unasked before middle after last made =
+    let from = length before.decisions + 1 in
+    let count = last - length before.decisions in
+    let new = ap (drop (length before.decisions)) made.decisions ∙ drop-append_seam before.decisions (sent_decisions middle from count) in
+    subst AreUnasked (sym new) (sent-unasked middle from count)
+
+-- ---- packets
+
+shown-is-coded-by : {T O : Type 0} (m : Moment T O) (first : Waiting T O) (entry : LogEntry) (command : Command) →
+    slice_get m.waiting 0 ≡ Some first → CanCode m command → IsSome (shown_coding (record entry { command = command }) first)
+shown-is-coded-by m first entry (Code frame kind refs refresh shown) is_first can = refl
+shown-is-coded-by {T} {O} m first entry (Show slot) is_first can =
+    let coded : Option (Waiting T O) → Type 0 = λ o. IsSome (option_and_then (λ waiting. waiting.coded) o) in
+    subst coded is_first can
+
+-- the frame that an entry shows was coded
+pub shown-is-coded : {T O : Type 0} (m : Moment T O) (first : Waiting T O) (entry : LogEntry) →
+    slice_get m.waiting 0 ≡ Some first → CanCode m entry.command → IsSome (shown_coding entry first)
+shown-is-coded m first entry is_first can = shown-is-coded-by m first entry entry.command is_first can

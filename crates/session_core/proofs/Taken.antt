@@ -1,166 +1,348 @@
--- What the coder tells of the entries of turns, turn by turn.
-use Rattle.std.proofs.Common.{◌≡◌, ℕ, ◌+◌, Bool, cond, inl, inr, List, [], ◌∷◌, ◌++◌, length, take, map, Option, Some, None, refl, sym, ap, ap₂, ◌∙◌, subst, subst₂, append_assoc, append-nil, arith}
-use Rattle.std.proofs.lemmas.Bool.{cond-false}
-use Rattle.std.proofs.lemmas.List.{length_push, nil_from_length}
+-- What the coder tells of the entries of turns, turn by turn and as the display machine says.
+use Rattle.std.proofs.Common.{◌≡◌, ℕ, zero, suc, ◌+◌, ◌<◌, ◌≤◌, Bool, true, false, cond, not, List, [], ◌∷◌, ◌++◌, length, Option, Some, None, All, option_map, option_to_list, slice_get, refl, sym, ap, ap₂, ◌∙◌, subst, subst₂, append_assoc, append-nil, arith}
+use Rattle.std.specs.List.{flat_map}
+use Rattle.std.proofs.lemmas.Bool.{cond-true}
+use Rattle.std.proofs.lemmas.List.{length-append}
+use Rattle.std.proofs.lemmas.List.Concat.{flat_map-append}
+use Rattle.std.proofs.lemmas.List.Elements.{All-head, All-tail}
+use Rattle.coding_base.specs.Runs.{after_calls}
+use Rattle.coding_base.proofs.RunLemmas.{after-append}
 use Rattle.av1_settings.specs.declared.encoder.EncoderConfig.{EncoderConfig}
 use Rattle.pyramid.specs.declared.command.Command.{Command}
 use Rattle.pyramid.specs.declared.command.Command.TheVariants.{Code, Show}
 use Rattle.pyramid.specs.Display.{Slots, empty_slots, held, slots_after_one, slots_after}
-use Rattle.pyramid.proofs.Machine.{slots_after-append}
 use Rattle.session_core.specs.declared.call.Call.{Call}
+use Rattle.session_core.specs.declared.transcript.Decision.{Decision}
 use Rattle.session_core.specs.declared.transcript.LogEntry.{LogEntry}
 use Rattle.session_core.specs.declared.transcript.Turn.{Turn}
-use Rattle.session_core.specs.Headline.{IsTaken, entries_of, told_of, told_entries}
-use Rattle.session_core.specs.Moments.{Accepted, Moment, opening, plan_at}
+use Rattle.session_core.specs.Answers.{Codes as IsCodedNext}
+use Rattle.session_core.specs.Moments.{Accepted, Waiting, Moment, opening, waiting_at, plan_at}
+use Rattle.session_core.specs.Sessions.{AreTurns, IsTaken, moment_after, accepted_by, accepted_in, entries_of, told_of, told_entries}
 use Rattle.session_core.specs.States.{told_at}
-use Rattle.session_core.specs.Told.{Told, Grew}
-use Rattle.session_core.specs.Turns.{IsTurn, after_turn, after_turns, AreTurns}
-use Rattle.session_core.proofs.PlanLaw.{plan-facts}
-use Rattle.session_core.proofs.Replay.{take_next, next_held}
-use Rattle.session_core.proofs.Sound.{IsSound, same_plan, sound-opening, sound-quiet, sound-coding}
-use Rattle.session_core.proofs.Steps.{IsQuiet, CodingTurn, view}
+use Rattle.session_core.specs.Told.{Told, Coded, Shown, Grew, Heard}
+use Rattle.session_core.specs.Turns.{BeginTrials, real_entries, after_turn, IsTurn}
+use Rattle.session_core.proofs.Along.{runs-along}
+use Rattle.session_core.proofs.Decided.{frame_of, slice_get-front, waiting_at-sent}
+use Rattle.session_core.proofs.History.{command_list}
+use Rattle.session_core.proofs.PlanAt.{plan-of}
+use Rattle.session_core.proofs.RunHistory.{HasHistory, history-none, history-turn, accepted-push, entries-push}
+use Rattle.session_core.proofs.Sound.{IsSound, packets-are, can}
+use Rattle.session_core.proofs.Steps.{TurnView, IsTrialOf, trials-begin, view}
+use Rattle.session_core.proofs.Steps.TurnView.{Stays, Accepts, Ends, Codes}
 
--- turn by turn, each entry at the moment before its turn
-abbrev pub told_turns : {T O : Type 0} → Moment T → List (Call T O) → List (Turn T O) → List (Told T)
-told_turns moment [] turns = []
-told_turns moment (call ∷ calls) [] = []
-told_turns moment (call ∷ calls) (turn ∷ turns) = map (told_at moment) turn.log ++ told_turns (after_turn moment call turn) calls turns
+-- ---- turn by turn
 
-pub told_turns-append : {T O : Type 0} (m : Moment T) (calls : List (Call T O)) (turns : List (Turn T O)) (more : List (Call T O)) (further : List (Turn T O)) → length turns ≡ length calls → told_turns m (calls ++ more) (turns ++ further) ≡ told_turns m calls turns ++ told_turns (after_turns m calls turns) more further
-told_turns-append m [] [] more further e = refl
-told_turns-append m [] (turn ∷ turns) more further e = absurd (omega arith)
-told_turns-append m (call ∷ calls) [] more further e = absurd (omega arith)
-told_turns-append {T} m (call ∷ calls) (turn ∷ turns) more further e =
-    ap (λ (l : List (Told T)). map (told_at m) turn.log ++ l) (told_turns-append (after_turn m call turn) calls turns more further (omega arith))
-    ∙ sym (append_assoc (map (told_at m) turn.log) (told_turns (after_turn m call turn) calls turns) (told_turns (after_turns (after_turn m call turn) calls turns) more further))
+-- each entry at the moment before its turn
+abbrev pub told_turns : {T O : Type 0} → EncoderConfig → List Decision → Moment T O → List (Call T O) → List (Turn T O) → List (Told T)
+told_turns enc decisions moment [] turns = []
+told_turns enc decisions moment (call ∷ calls) [] = []
+told_turns enc decisions moment (call ∷ calls) (turn ∷ turns) =
+    flat_map (told_at moment) turn.log ++ told_turns enc decisions (after_turn enc decisions moment call turn) calls turns
 
-pub told_turns-snoc : {T O : Type 0} (m : Moment T) (calls : List (Call T O)) (turns : List (Turn T O)) (call : Call T O) (turn : Turn T O) → length turns ≡ length calls → told_turns m (calls ++ call ∷ []) (turns ++ turn ∷ []) ≡ told_turns m calls turns ++ map (told_at (after_turns m calls turns)) turn.log
-told_turns-snoc {T} m calls turns call turn e =
-    told_turns-append m calls turns (call ∷ []) (turn ∷ []) e
-    ∙ ap (λ (l : List (Told T)). told_turns m calls turns ++ l) (append-nil (map (told_at (after_turns m calls turns)) turn.log))
+-- one more call and its turn
+pub told_turns-push : {T O : Type 0} (enc : EncoderConfig) (decisions : List Decision) (moment : Moment T O) (calls : List (Call T O)) (turns : List (Turn T O)) (call : Call T O) (turn : Turn T O) →
+    length turns ≡ length calls →
+    told_turns enc decisions moment (calls ++ call ∷ []) (turns ++ turn ∷ [])
+    ≡ told_turns enc decisions moment calls turns ++ flat_map (told_at (after_calls (after_turn enc decisions) moment calls turns)) turn.log
+told_turns-push enc decisions moment [] [] call turn same = append-nil (flat_map (told_at moment) turn.log)
+told_turns-push enc decisions moment [] (other ∷ turns) call turn same = absurd (omega arith)
+told_turns-push enc decisions moment (first ∷ calls) [] call turn same = absurd (omega arith)
+told_turns-push {T} {O} enc decisions moment (first ∷ calls) (other ∷ turns) call turn same =
+    let next = after_turn enc decisions moment first other in
+    ap (λ (l : List (Told T)). flat_map (told_at moment) other.log ++ l) (told_turns-push enc decisions next calls turns call turn (omega arith))
+    ∙ sym (append_assoc (flat_map (told_at moment) other.log) (told_turns enc decisions next calls turns)
+    (flat_map (told_at (after_calls (after_turn enc decisions) next calls turns)) turn.log))
+
+-- ---- as the display machine says
 
 -- the slots after entries, where trials leave them
 abbrev told_slots : Slots → List LogEntry → Slots
 told_slots slots [] = slots
 told_slots slots (entry ∷ entries) = told_slots (cond entry.trial slots (slots_after_one slots entry.command)) entries
 
-told_entries-append : {T : Type 0} (sent : List (Accepted T)) (slots : Slots) (a b : List LogEntry) → told_entries sent slots (a ++ b) ≡ told_entries sent slots a ++ told_entries sent (told_slots slots a) b
-told_entries-append sent slots [] b = refl
-told_entries-append {T} sent slots (entry ∷ a) b =
-    ap (λ (l : List (Told T)). told_of sent slots entry ∷ l) (told_entries-append sent (cond entry.trial slots (slots_after_one slots entry.command)) a b)
+told_slots-real : (slots : Slots) (entries : List LogEntry) → told_slots slots entries ≡ slots_after slots (command_list (real_entries entries))
+told_slots-real slots [] = refl
+told_slots-real slots (entry ∷ entries) =
+    by_test entry.trial (told_slots-real slots entries) (told_slots-real (slots_after_one slots entry.command) entries)
+  where
+    by_test : (t : Bool) → told_slots slots entries ≡ slots_after slots (command_list (real_entries entries)) →
+        told_slots (slots_after_one slots entry.command) entries ≡ slots_after (slots_after_one slots entry.command) (command_list (real_entries entries)) →
+        told_slots (cond t slots (slots_after_one slots entry.command)) entries ≡ slots_after slots (command_list (cond (not t) (entry ∷ real_entries entries) (real_entries entries)))
+    by_test true kept moved = kept
+    by_test false kept moved = moved
 
-told_slots-append : (slots : Slots) (a b : List LogEntry) → told_slots slots (a ++ b) ≡ told_slots (told_slots slots a) b
-told_slots-append slots [] b = refl
-told_slots-append slots (entry ∷ a) b = told_slots-append (cond entry.trial slots (slots_after_one slots entry.command)) a b
+told_entries-append : {T O : Type 0} (sent : List (Accepted T O)) (slots : Slots) (a b : List LogEntry) → told_entries sent slots (a ++ b) ≡ told_entries sent slots a ++ told_entries sent (told_slots slots a) b
+told_entries-append sent slots [] b = refl
+told_entries-append {T} {O} sent slots (entry ∷ a) b =
+    ap (λ (l : List (Told T)). told_of sent slots entry ++ l) (told_entries-append sent (cond entry.trial slots (slots_after_one slots entry.command)) a b)
+    ∙ sym (append_assoc (told_of sent slots entry) (told_entries sent (cond entry.trial slots (slots_after_one slots entry.command)) a)
+    (told_entries sent (told_slots (cond entry.trial slots (slots_after_one slots entry.command)) a) b))
+
+-- ---- frames sent later change nothing
+
+-- a frame that is coded is below `high`
+abbrev IsBelow : ℕ → Command → Type 0
+IsBelow high (Code frame kind refs refresh shown) = frame < high
+IsBelow high (Show slot) = Unit {0}
+
+below_higher : (low high : ℕ) (command : Command) → low ≤ high → IsBelow low command → IsBelow high command
+below_higher low high (Code frame kind refs refresh shown) h below = omega arith
+below_higher low high (Show slot) h below = tt
+
+abbrev AllBelow : ℕ → List LogEntry → Type 0
+AllBelow high [] = Unit {0}
+AllBelow high (entry ∷ entries) = IsBelow high entry.command × AllBelow high entries
+
+all_higher : (low high : ℕ) (entries : List LogEntry) → low ≤ high → AllBelow low entries → AllBelow high entries
+all_higher low high [] h all = tt
+all_higher low high (entry ∷ entries) h all = (below_higher low high entry.command h all.0, all_higher low high entries h all.1)
+
+all-append : (high : ℕ) (a b : List LogEntry) → AllBelow high a → AllBelow high b → AllBelow high (a ++ b)
+all-append high [] b all more = more
+all-append high (entry ∷ a) b all more = (all.0, all-append high a b all.1 more)
+
+told_of-sent : {T O : Type 0} (sent more : List (Accepted T O)) (slots : Slots) (command : Command) (trial : Bool) (bytes : List ℕ) → IsBelow (length sent) command →
+    told_of (sent ++ more) slots (record { command = command; trial = trial; bytes = bytes }) ≡ told_of sent slots (record { command = command; trial = trial; bytes = bytes })
+told_of-sent {T} {O} sent more slots (Code frame kind refs refresh shown) trial bytes below =
+    let with_picture : Accepted T O → Told T = λ accepted. Coded (record {
+      command = Code frame kind refs refresh shown;
+      trial = trial;
+      picture = accepted.picture;
+      bytes = bytes;
+    }) in
+    ap (λ (o : Option (Accepted T O)). option_to_list (option_map with_picture o)) (slice_get-front sent more frame below)
+told_of-sent sent more slots (Show slot) trial bytes below = refl
+
+told_entries-sent : {T O : Type 0} (sent more : List (Accepted T O)) (slots : Slots) (entries : List LogEntry) → AllBelow (length sent) entries →
+    told_entries (sent ++ more) slots entries ≡ told_entries sent slots entries
+told_entries-sent sent more slots [] all = refl
+told_entries-sent {T} {O} sent more slots (entry ∷ entries) all =
+    ap₂ (λ (a b : List (Told T)). a ++ b) (told_of-sent sent more slots entry.command entry.trial entry.bytes all.0)
+    (told_entries-sent sent more (cond entry.trial slots (slots_after_one slots entry.command)) entries all.1)
+
+one_there : {A B : Type 0} (f : A → B) (xs : List A) (k : ℕ) → k < length xs → length (option_to_list (option_map f (slice_get xs k))) ≡ 1
+one_there f [] k h = absurd (omega arith)
+one_there f (x ∷ xs) zero h = refl
+one_there f (x ∷ xs) (suc k) h = one_there f xs k (omega arith)
+
+-- ---- at a moment
+
+module _ {T O : Type 0} (enc : EncoderConfig) (whole : List Decision) (moment : Moment T O) (sent : List (Accepted T O)) (done : List Command)
+    (sound : IsSound enc whole moment sent done) (command : Command) (next : slice_get (plan_at enc moment) moment.commands ≡ Some command) where
+  -- of the next command what is told is what the display machine says, also where it is only tried
+  told_next : (next_one : Command) (trial : Bool) (bytes : List ℕ) → slice_get (plan_at enc moment) moment.commands ≡ Some next_one →
+      told_at moment (record { command = next_one; trial = trial; bytes = bytes }) ≡ told_of sent (slots_after empty_slots done) (record { command = next_one; trial = trial; bytes = bytes })
+  told_next (Code frame kind refs refresh shown) trial bytes is =
+      by_frame (waiting_at moment frame)
+      ∙ ap (λ (o : Option (Accepted T O)). option_to_list (option_map with_picture o)) (waiting_at-sent moment sent frame sound.frames (can enc whole moment sent done sound (Code frame kind refs refresh shown) is).0)
+    where
+      with_picture : Accepted T O → Told T
+      with_picture = λ accepted. Coded (record { command = Code frame kind refs refresh shown; trial = trial; picture = accepted.picture; bytes = bytes })
+
+      by_frame : (o : Option (Waiting T O)) →
+          option_to_list (option_map (λ waiting. Coded (record { command = Code frame kind refs refresh shown; trial = trial; picture = waiting.frame.picture; bytes = bytes })) o)
+          ≡ option_to_list (option_map with_picture (option_map frame_of o))
+      by_frame None = refl
+      by_frame (Some one) = refl
+  told_next (Show slot) trial bytes is =
+      let with_number : ℕ → Told T = λ frame. Shown (record { slot = slot; frame = frame; bytes = bytes }) in
+      let holds : held (slots_after empty_slots done) slot ≡ Some moment.packets =
+      ap (λ (l : List Command). held (slots_after empty_slots l) slot) sound.commands
+      ∙ (plan-of enc moment).show moment.commands slot is
+      ∙ ap (λ (n : ℕ). Some n) (sym (packets-are enc whole moment sent done sound)) in
+      ap (λ (o : Option ℕ). option_to_list (option_map with_number o)) (sym holds)
+
+  -- each is told once
+  each_one : (entry : LogEntry) → entry.command ≡ command → length (told_at moment entry) ≡ 1
+  each_one entry is = of_next entry.command entry.trial entry.bytes (next ∙ ap (λ (c : Command). Some c) (sym is))
+    where
+      of_next : (c : Command) (trial : Bool) (bytes : List ℕ) → slice_get (plan_at enc moment) moment.commands ≡ Some c →
+          length (told_at moment (record { command = c; trial = trial; bytes = bytes })) ≡ 1
+      of_next (Code frame kind refs refresh shown) trial bytes is =
+          ap length (told_next (Code frame kind refs refresh shown) trial bytes is)
+          ∙ one_there (λ (accepted : Accepted T O). Coded (record { command = Code frame kind refs refresh shown; trial = trial; picture = accepted.picture; bytes = bytes })) sent frame
+          (subst (λ (n : ℕ). frame < n) sound.accepted (can enc whole moment sent done sound (Code frame kind refs refresh shown) is).1)
+      of_next (Show slot) trial bytes is = refl
+
+  each_trial : (trials : List LogEntry) → All (IsTrialOf command) trials → length (flat_map (told_at moment) trials) ≡ length trials
+  each_trial [] tried = refl
+  each_trial (trial ∷ trials) tried =
+      length-append (told_at moment trial) (flat_map (told_at moment) trials)
+      ∙ ap₂ (λ (a b : ℕ). a + b) (each_one trial (All-head (IsTrialOf command) trial trials tried).1) (each_trial trials (All-tail (IsTrialOf command) trial trials tried))
+      ∙ omega arith
+
+  each_log : (trials : List LogEntry) (entry : LogEntry) → All (IsTrialOf command) trials → entry.command ≡ command →
+      length (flat_map (told_at moment) (trials ++ entry ∷ [])) ≡ length (trials ++ entry ∷ [])
+  each_log trials entry tried is =
+      ap length (flat_map-append (told_at moment) trials (entry ∷ []))
+      ∙ length-append (flat_map (told_at moment) trials) (told_at moment entry ++ [])
+      ∙ ap₂ (λ (a b : ℕ). a + b) (each_trial trials tried) (ap length (append-nil (told_at moment entry)) ∙ each_one entry is)
+      ∙ sym (length-append trials (entry ∷ []))
+
+  -- an entry of the command
+  abbrev IsOf : LogEntry → Type 0
+  IsOf entry = entry.command ≡ command
+
+  told_one : (entry : LogEntry) → entry.command ≡ command → told_at moment entry ≡ told_of sent (slots_after empty_slots done) entry
+  told_one entry is = told_next entry.command entry.trial entry.bytes (next ∙ ap (λ (c : Command). Some c) (sym is))
+
+  below_one : (entry : LogEntry) → entry.command ≡ command → IsBelow (length sent) entry.command
+  below_one entry is = of_next entry.command (next ∙ ap (λ (c : Command). Some c) (sym is))
+    where
+      of_next : (c : Command) → slice_get (plan_at enc moment) moment.commands ≡ Some c → IsBelow (length sent) c
+      of_next (Code frame kind refs refresh shown) is = subst (λ (n : ℕ). frame < n) sound.accepted (can enc whole moment sent done sound (Code frame kind refs refresh shown) is).1
+      of_next (Show slot) is = tt
+
+  -- trials of it
+  told_trials : (trials : List LogEntry) → All (IsTrialOf command) trials → flat_map (told_at moment) trials ≡ told_entries sent (slots_after empty_slots done) trials
+  told_trials [] tried = refl
+  told_trials (trial ∷ trials) tried =
+      let here = All-head (IsTrialOf command) trial trials tried in
+      ap₂ (λ (a b : List (Told T)). a ++ b) (told_one trial here.1) (told_trials trials (All-tail (IsTrialOf command) trial trials tried))
+      ∙ ap (λ (s : Slots). told_of sent (slots_after empty_slots done) trial ++ told_entries sent s trials)
+      (sym (cond-true trial.trial (slots_after empty_slots done) (slots_after_one (slots_after empty_slots done) trial.command) here.0))
+
+  trials_stay : (trials : List LogEntry) → All (IsTrialOf command) trials → told_slots (slots_after empty_slots done) trials ≡ slots_after empty_slots done
+  trials_stay [] tried = refl
+  trials_stay (trial ∷ trials) tried =
+      ap (λ (s : Slots). told_slots s trials)
+      (cond-true trial.trial (slots_after empty_slots done) (slots_after_one (slots_after empty_slots done) trial.command) (All-head (IsTrialOf command) trial trials tried).0)
+      ∙ trials_stay trials (All-tail (IsTrialOf command) trial trials tried)
+
+  trials_below : (trials : List LogEntry) → All (IsTrialOf command) trials → AllBelow (length sent) trials
+  trials_below [] tried = tt
+  trials_below (trial ∷ trials) tried =
+      (below_one trial (All-head (IsTrialOf command) trial trials tried).1, trials_below trials (All-tail (IsTrialOf command) trial trials tried))
+
+  -- trials, and then the command itself
+  told_log : (trials : List LogEntry) (entry : LogEntry) → All (IsTrialOf command) trials → entry.command ≡ command →
+      flat_map (told_at moment) (trials ++ entry ∷ []) ≡ told_entries sent (slots_after empty_slots done) (trials ++ entry ∷ [])
+  told_log trials entry tried is =
+      flat_map-append (told_at moment) trials (entry ∷ [])
+      ∙ ap₂ (λ (a b : List (Told T)). a ++ b) (told_trials trials tried) (ap (λ (l : List (Told T)). l ++ []) (told_one entry is))
+      ∙ ap (λ (s : Slots). told_entries sent (slots_after empty_slots done) trials ++ told_entries sent s (entry ∷ [])) (sym (trials_stay trials tried))
+      ∙ sym (told_entries-append sent (slots_after empty_slots done) trials (entry ∷ []))
+
+-- ---- of calls and turns
+
+moment_push : {T O : Type 0} (enc : EncoderConfig) (whole : List Decision) (moment : Moment T O) (calls : List (Call T O)) (turns : List (Turn T O)) (call : Call T O) (turn : Turn T O) → length turns ≡ length calls →
+    after_calls (after_turn enc whole) moment (calls ++ call ∷ []) (turns ++ turn ∷ []) ≡ after_turn enc whole (after_calls (after_turn enc whole) moment calls turns) call turn
+moment_push enc whole moment calls turns call turn same = after-append (IsTurn enc whole) (after_turn enc whole) moment calls turns (call ∷ []) (turn ∷ []) same
 
 -- what was told so far is what the entries so far say
-record IsTold {T : Type 0} (enc : EncoderConfig) (moment : Moment T) (entries : List LogEntry) (told : List (Told T)) : Type 0 where
-  sound : IsSound enc moment
-  count : length entries ≡ moment.commands
-  slots : told_slots empty_slots entries ≡ slots_after empty_slots (take moment.commands (plan_at enc moment))
-  says : told ≡ told_entries moment.sent empty_slots entries
+record IsTold {T O : Type 0} (enc : EncoderConfig) (whole : List Decision) (moment : Moment T O) (calls : List (Call T O)) (turns : List (Turn T O)) : Type 0 where
+  has : HasHistory enc whole moment calls turns
+  below : AllBelow (length (accepted_in calls turns)) (entries_of turns)
+  moment_is : moment ≡ moment_after enc whole calls turns
+  says : told_turns enc whole opening calls turns ≡ told_entries (accepted_in calls turns) empty_slots (entries_of turns)
+  each : length (told_turns enc whole opening calls turns) ≡ length (entries_of turns)
 
-told-quiet : {T : Type 0} (enc : EncoderConfig) (before after : Moment T) (entries : List LogEntry) (told : List (Told T)) → IsTold enc before entries told → IsQuiet before after → IsTold enc after entries told
-told-quiet {T} enc before after entries told so_far quiet = record {
-  sound = sound-quiet enc before after so_far.sound quiet;
-  count = so_far.count ∙ sym quiet.commands;
-  slots = so_far.slots ∙ ap (slots_after empty_slots) same_front;
-  says = so_far.says ∙ same_told;
-}
-  where
-    same_front : take before.commands (plan_at enc before) ≡ take after.commands (plan_at enc after)
-    same_front = elim quiet.state [
-      | inl early ↦
-          ap (λ (n : ℕ). take n (plan_at enc before)) (so_far.sound.unflushed early)
-          ∙ ap (λ (n : ℕ). take n (plan_at enc after)) (sym (quiet.commands ∙ so_far.sound.unflushed early))
-      | inr same ↦ ap₂ (λ (n : ℕ) (p : List Command). take n p) (sym quiet.commands) (sym (same_plan enc before after same.0 same.1))
-    ]
+module _ {T O : Type 0} (enc : EncoderConfig) (whole : List Decision) (moment : Moment T O) (calls : List (Call T O)) (turns : List (Turn T O)) (so_far : IsTold enc whole moment calls turns) where
+  slots_now : told_slots empty_slots (entries_of turns) ≡ slots_after empty_slots (command_list (real_entries (entries_of turns)))
+  slots_now = told_slots-real empty_slots (entries_of turns)
 
-    same_told : told_entries before.sent empty_slots entries ≡ told_entries after.sent empty_slots entries
-    same_told = elim quiet.state [
-      | inl early ↦
-          let none : entries ≡ [] = nil_from_length entries (so_far.count ∙ so_far.sound.unflushed early) in
-          ap (told_entries before.sent empty_slots) none ∙ ap (told_entries after.sent empty_slots) (sym none)
-      | inr same ↦ ap (λ (s : List (Accepted T)). told_entries s empty_slots entries) (sym same.0)
-    ]
+  -- what is told of further entries, where they say what the display machine says
+  told_further : (log : List LogEntry) →
+      flat_map (told_at moment) log ≡ told_entries (accepted_in calls turns) (slots_after empty_slots (command_list (real_entries (entries_of turns)))) log →
+      told_turns enc whole opening calls turns ++ flat_map (told_at moment) log ≡ told_entries (accepted_in calls turns) empty_slots (entries_of turns ++ log)
+  told_further log said =
+      ap₂ (λ (a b : List (Told T)). a ++ b) so_far.says (said ∙ ap (λ (s : Slots). told_entries (accepted_in calls turns) s log) (sym slots_now))
+      ∙ sym (told_entries-append (accepted_in calls turns) empty_slots (entries_of turns) log)
 
--- at the moment before its turn an entry's frame is the next packet's
-told_same : {T : Type 0} (moment : Moment T) (slots : Slots) (command : Command) (trial : Bool) (bytes : List ℕ) → ((slot : ℕ) → command ≡ Show slot → held slots slot ≡ Some moment.packets) → told_at moment (record { command = command; trial = trial; bytes = bytes }) ≡ told_of moment.sent slots (record { command = command; trial = trial; bytes = bytes })
-told_same moment slots (Code frame kind refs refresh shown) trial bytes holds = refl
-told_same {T} moment slots (Show slot) trial bytes holds =
-    let with_frame : Option ℕ → Told T = λ f. record { command = Show slot; trial = trial; bytes = bytes; picture = None; frame = f } in
-    ap with_frame (sym (holds slot refl))
+  -- one turn's entries, and the frames that it accepts
+  record SaysMore (more : List (Accepted T O)) (log : List LogEntry) : Type 0 where
+    below : AllBelow (length (accepted_in calls turns ++ more)) (entries_of turns ++ log)
+    says : told_turns enc whole opening calls turns ++ flat_map (told_at moment) log ≡ told_entries (accepted_in calls turns ++ more) empty_slots (entries_of turns ++ log)
+    each : length (flat_map (told_at moment) log) ≡ length log
 
-told-coding : {T O : Type 0} (enc : EncoderConfig) (before : Moment T) (turn : Turn T O) (after : Moment T) (entries : List LogEntry) (told : List (Told T)) → IsTold enc before entries told → (coding : CodingTurn enc before turn after) → IsTold enc after (entries ++ coding.entry ∷ []) (told ++ told_at before coding.entry ∷ [])
-told-coding {T} enc before turn after entries told so_far coding = record {
-  sound = sound-coding enc before turn after so_far.sound coding;
-  count = length_push entries coding.entry ∙ ap (λ (n : ℕ). n + 1) so_far.count ∙ sym coding.commands;
-  slots = slots_more;
-  says = says_more;
-}
-  where
-    plan_before : List Command
-    plan_before = plan_at enc before
+  -- nothing is told where nothing is coded
+  nothing_said : (more : List (Accepted T O)) → SaysMore more []
+  nothing_said more = record {
+    below = all-append (length (accepted_in calls turns ++ more)) (entries_of turns) [] (all_higher (length (accepted_in calls turns)) (length (accepted_in calls turns ++ more)) (entries_of turns) longer so_far.below) tt;
+    says =
+        append-nil (told_turns enc whole opening calls turns) ∙ so_far.says
+        ∙ sym (told_entries-sent (accepted_in calls turns) more empty_slots (entries_of turns) so_far.below)
+        ∙ ap (told_entries (accepted_in calls turns ++ more) empty_slots) (sym (append-nil (entries_of turns)));
+    each = refl;
+  }
+    where
+      longer : length (accepted_in calls turns) ≤ length (accepted_in calls turns ++ more)
+      longer = omega (arith, length-append (accepted_in calls turns) more)
 
-    slots_more : told_slots empty_slots (entries ++ coding.entry ∷ []) ≡ slots_after empty_slots (take after.commands (plan_at enc after))
-    slots_more =
-        told_slots-append empty_slots entries (coding.entry ∷ [])
-        ∙ cond-false coding.entry.trial (told_slots empty_slots entries) (slots_after_one (told_slots empty_slots entries) coding.entry.command) coding.real
-        ∙ ap (λ (s : Slots). slots_after_one s coding.entry.command) so_far.slots
-        ∙ sym (slots_after-append empty_slots (take before.commands (plan_at enc before)) (coding.entry.command ∷ []))
-        ∙ ap (slots_after empty_slots) (sym (take_next (plan_at enc before) before.commands coding.entry.command coding.command))
-        ∙ ap₂ (λ (n : ℕ) (p : List Command). slots_after empty_slots (take n p)) (sym coding.commands) (sym (same_plan enc before after coding.sent coding.still))
+  said_of : (call : Call T O) (turn : Turn T O) (after : Moment T O) → TurnView enc whole moment call turn after → SaysMore (accepted_by call turn.reply) turn.log
+  said_of call turn after (Stays staying) = subst (SaysMore (accepted_by call turn.reply)) (sym staying.log) (nothing_said (accepted_by call turn.reply))
+  said_of call turn after (Accepts accepting) = subst (SaysMore (accepted_by call turn.reply)) (sym accepting.log) (nothing_said (accepted_by call turn.reply))
+  said_of call turn after (Ends ending) = subst (SaysMore (accepted_by call turn.reply)) (sym ending.log) (nothing_said (accepted_by call turn.reply))
+  said_of call turn after (Codes coding) =
+      subst₂ SaysMore (sym coding.accepts) (sym coding.log)
+      (record {
+        below = subst (λ (l : List (Accepted T O)). AllBelow (length l) (entries_of turns ++ (coding.trials ++ coding.entry ∷ []))) (sym (append-nil (accepted_in calls turns)))
+            (all-append (length (accepted_in calls turns)) (entries_of turns) (coding.trials ++ coding.entry ∷ []) so_far.below
+            (all-append (length (accepted_in calls turns)) coding.trials (coding.entry ∷ [])
+            (trials_below enc whole moment (accepted_in calls turns) (command_list (real_entries (entries_of turns))) so_far.has.history.sound coding.entry.command coding.command coding.trials coding.tried)
+            (below_one enc whole moment (accepted_in calls turns) (command_list (real_entries (entries_of turns))) so_far.has.history.sound coding.entry.command coding.command coding.entry refl, tt)));
+        says =
+            told_further (coding.trials ++ coding.entry ∷ [])
+            (told_log enc whole moment (accepted_in calls turns) (command_list (real_entries (entries_of turns))) so_far.has.history.sound coding.entry.command coding.command coding.trials coding.entry coding.tried refl)
+            ∙ ap (λ (l : List (Accepted T O)). told_entries l empty_slots (entries_of turns ++ (coding.trials ++ coding.entry ∷ []))) (sym (append-nil (accepted_in calls turns)));
+        each = each_log enc whole moment (accepted_in calls turns) (command_list (real_entries (entries_of turns))) so_far.has.history.sound coding.entry.command coding.command coding.trials coding.entry coding.tried refl;
+      })
 
-    holds : (slot : ℕ) → coding.entry.command ≡ Show slot → held (told_slots empty_slots entries) slot ≡ Some before.packets
-    holds slot is =
-        ap (λ (s : Slots). held s slot) so_far.slots
-        ∙ next_held (plan_at enc before) (length before.sent) (plan-facts enc before) before.commands slot (coding.command ∙ ap (λ (c : Command). Some c) is)
-        ∙ ap (λ (n : ℕ). Some n) (sym so_far.sound.packets)
+  told-turn : (call : Call T O) (turn : Turn T O) → IsTurn enc whole moment call turn → IsTold enc whole (after_turn enc whole moment call turn) (calls ++ call ∷ []) (turns ++ turn ∷ [])
+  told-turn call turn is =
+      let said = said_of call turn (after_turn enc whole moment call turn) (view enc whole moment call turn is) in
+      record {
+        has = history-turn enc whole moment calls turns call turn so_far.has is;
+        below = subst₂ (λ (s : List (Accepted T O)) (e : List LogEntry). AllBelow (length s) e) (sym (accepted-push calls turns call turn so_far.has.same_length)) (sym (entries-push turns turn)) said.below;
+        moment_is =
+            ap (λ (m : Moment T O). after_turn enc whole m call turn) so_far.moment_is
+            ∙ sym (moment_push enc whole opening calls turns call turn so_far.has.same_length);
+        says =
+            told_turns-push enc whole opening calls turns call turn so_far.has.same_length
+            ∙ ap (λ (m : Moment T O). told_turns enc whole opening calls turns ++ flat_map (told_at m) turn.log) (sym so_far.moment_is)
+            ∙ said.says
+            ∙ ap₂ (λ (s : List (Accepted T O)) (e : List LogEntry). told_entries s empty_slots e) (sym (accepted-push calls turns call turn so_far.has.same_length)) (sym (entries-push turns turn));
+        each =
+            ap length (told_turns-push enc whole opening calls turns call turn so_far.has.same_length
+            ∙ ap (λ (m : Moment T O). told_turns enc whole opening calls turns ++ flat_map (told_at m) turn.log) (sym so_far.moment_is))
+            ∙ length-append (told_turns enc whole opening calls turns) (flat_map (told_at moment) turn.log)
+            ∙ ap₂ (λ (a b : ℕ). a + b) so_far.each said.each
+            ∙ sym (ap length (entries-push turns turn) ∙ length-append (entries_of turns) turn.log);
+      }
 
-    says_more : told ++ told_at before coding.entry ∷ [] ≡ told_entries after.sent empty_slots (entries ++ coding.entry ∷ [])
-    says_more =
-        ap₂ (λ (l : List (Told T)) (t : Told T). l ++ t ∷ []) so_far.says
-        (told_same before (told_slots empty_slots entries) coding.entry.command coding.entry.trial coding.entry.bytes holds)
-        ∙ sym (told_entries-append before.sent empty_slots entries (coding.entry ∷ []))
-        ∙ ap (λ (s : List (Accepted T)). told_entries s empty_slots (entries ++ coding.entry ∷ [])) (sym coding.sent)
-
-told-turn : {T O : Type 0} (enc : EncoderConfig) (moment : Moment T) (call : Call T O) (turn : Turn T O) (entries : List LogEntry) (told : List (Told T)) → IsTold enc moment entries told → IsTurn enc moment call turn → IsTold enc (after_turn moment call turn) (entries ++ turn.log) (told ++ map (told_at moment) turn.log)
-told-turn {T} enc moment call turn entries told so_far is =
-    let Q : List LogEntry → List (Told T) → Type 0 = IsTold enc (after_turn moment call turn) in
-    let with_log : List LogEntry → Type 0 = λ log. Q (entries ++ log) (told ++ map (told_at moment) log) in
-    elim (view enc moment call turn is) [
-      | inl quiet ↦ subst with_log (sym quiet.log) (subst₂ Q (sym (append-nil entries)) (sym (append-nil told)) (told-quiet enc moment (after_turn moment call turn) entries told so_far quiet.quiet))
-      | inr coding ↦ subst with_log (sym coding.log) (told-coding enc moment turn (after_turn moment call turn) entries told so_far coding)
-    ]
-
-told-all : {T O : Type 0} (enc : EncoderConfig) (moment : Moment T) (calls : List (Call T O)) (turns : List (Turn T O)) (entries : List LogEntry) (told : List (Told T)) → IsTold enc moment entries told → AreTurns enc moment calls turns → IsTold enc (after_turns moment calls turns) (entries ++ entries_of turns) (told ++ told_turns moment calls turns)
-told-all enc moment [] [] entries told so_far are =
-    subst₂ (IsTold enc moment) (sym (append-nil entries)) (sym (append-nil told)) so_far
-told-all enc moment [] (turn ∷ turns) entries told so_far are = absurd are
-told-all enc moment (call ∷ calls) [] entries told so_far are = absurd are
-told-all enc moment (call ∷ calls) (turn ∷ turns) entries told so_far are =
-    subst₂ (IsTold enc (after_turns (after_turn moment call turn) calls turns))
-    (append_assoc entries turn.log (entries_of turns))
-    (append_assoc told (map (told_at moment) turn.log) (told_turns (after_turn moment call turn) calls turns))
-    (told-all enc (after_turn moment call turn) calls turns (entries ++ turn.log) (told ++ map (told_at moment) turn.log) (told-turn enc moment call turn entries told so_far are.0) are.1)
-
--- told turn by turn is told as the display machine says
-pub told-as-taken : {T O : Type 0} (enc : EncoderConfig) (calls : List (Call T O)) (turns : List (Turn T O)) → AreTurns enc opening calls turns → told_turns opening calls turns ≡ told_entries (after_turns opening calls turns).sent empty_slots (entries_of turns)
-told-as-taken enc calls turns are =
-    (told-all enc opening calls turns [] [] (record { sound = sound-opening enc; count = refl; slots = refl; says = refl }) are).says
-
--- what is told grew by nothing, and by one list after the other
-pub grew-none : {T : Type 0} (told : Option (List (Told T))) → Grew told told []
-grew-none None = tt
-grew-none (Some told) = sym (append-nil told)
-
-pub grew-then : {T : Type 0} (before between after : Option (List (Told T))) (first then : List (Told T)) → Grew before between first → Grew between after then → Grew before after (first ++ then)
-grew-then None between after first then a b = tt
-grew-then (Some before) None after first then a b = absurd a
-grew-then (Some before) (Some between) None first then a b = absurd b
-grew-then {T} (Some before) (Some between) (Some after) first then a b =
-    b ∙ ap (λ (l : List (Told T)). l ++ then) a ∙ append_assoc before first then
+told-after : {T O : Type 0} (enc : EncoderConfig) (whole : List Decision) (calls : List (Call T O)) (turns : List (Turn T O)) → AreTurns enc whole calls turns →
+    IsTold enc whole (moment_after enc whole calls turns) calls turns
+told-after {T} {O} enc whole calls turns are =
+    runs-along (IsTurn enc whole) (after_turn enc whole) (IsTold enc whole)
+    (λ m done answered call turn so_far is. told-turn enc whole m done answered so_far call turn is)
+    opening [] [] calls turns (record { has = history-none enc whole; below = tt; moment_is = refl; says = refl; each = refl }) are
 
 -- told turn by turn is what the coder took
-pub taken-of : {T O : Type 0} (enc : EncoderConfig) (calls : List (Call T O)) (turns : List (Turn T O)) (before after : Option (List (Told T))) → AreTurns enc opening calls turns → Grew before after (told_turns opening calls turns) → IsTaken calls turns before after
-taken-of enc calls turns before after are grew = subst (Grew before after) (told-as-taken enc calls turns are) grew
+pub taken-all : {T O : Type 0} (enc : EncoderConfig) (whole : List Decision) (calls : List (Call T O)) (turns : List (Turn T O)) (before after : Heard T) → AreTurns enc whole calls turns →
+    Grew before.coder after.coder (told_turns enc whole opening calls turns) → IsTaken (accepted_in calls turns) (entries_of turns) before after
+taken-all enc whole calls turns before after are grew =
+    let told = told-after enc whole calls turns are in
+    record { grew = subst (Grew before.coder after.coder) told.says grew; each = sym (ap length told.says) ∙ told.each }
+
+-- also what was tried for the next command
+pub taken-of : {T O : Type 0} (enc : EncoderConfig) (whole : List Decision) (calls : List (Call T O)) (turns : List (Turn T O)) (before after : Heard T) (number : ℕ) (command : Command) (trials : List LogEntry) →
+    AreTurns enc whole calls turns → IsCodedNext enc (moment_after enc whole calls turns) number command → BeginTrials enc (moment_after enc whole calls turns) command trials →
+    Grew before.coder after.coder (told_turns enc whole opening calls turns ++ flat_map (told_at (moment_after enc whole calls turns)) trials) →
+    IsTaken (accepted_in calls turns) (entries_of turns ++ trials) before after
+taken-of {T} {O} enc whole calls turns before after number command trials are due tried grew =
+    let told = told-after enc whole calls turns are in
+    let due_command = ap (slice_get (plan_at enc (moment_after enc whole calls turns))) due.next ∙ due.command_of in
+    let tried_all = trials-begin enc (moment_after enc whole calls turns) command trials tried in
+    let says = told_further enc whole (moment_after enc whole calls turns) calls turns told trials
+    (told_trials enc whole (moment_after enc whole calls turns) (accepted_in calls turns) (command_list (real_entries (entries_of turns))) told.has.history.sound command
+    due_command trials tried_all) in
+    record {
+      grew = subst (Grew before.coder after.coder) says grew;
+      each =
+          sym (ap length says)
+          ∙ length-append (told_turns enc whole opening calls turns) (flat_map (told_at (moment_after enc whole calls turns)) trials)
+          ∙ ap₂ (λ (a b : ℕ). a + b) told.each
+          (each_trial enc whole (moment_after enc whole calls turns) (accepted_in calls turns) (command_list (real_entries (entries_of turns))) told.has.history.sound command
+          due_command trials tried_all)
+          ∙ sym (length-append (entries_of turns) trials);
+    }

@@ -1,32 +1,38 @@
 -- When a session answers other than Ok.
-use Rattle.std.specs.Prelude.{◌≡◌, ℕ, Bool, true, false, List, [], ◌∷◌, length, take, Option, Some}
+use Rattle.std.specs.Prelude.{◌≡◌, ℕ, ◌++◌, List, length, take, Some, None}
 use Rattle.std.specs.List.{slice_get}
 use Rattle.av1_settings.specs.declared.encoder.EncoderConfig.{EncoderConfig}
+use Rattle.pyramid.specs.declared.command.Command.{Command}
 use Rattle.session_core.specs.declared.call.Call.{Call}
-use Rattle.session_core.specs.declared.call.Call.TheVariants.{Send, Flush, Receive}
+use Rattle.session_core.specs.declared.call.Call.TheVariants.{Receive}
+use Rattle.session_core.specs.declared.transcript.Decision.{Decision}
+use Rattle.session_core.specs.declared.transcript.LogEntry.{LogEntry}
 use Rattle.session_core.specs.declared.transcript.Turn.{Turn}
-use Rattle.session_core.specs.Moments.{opening, plan_at}
-use Rattle.session_core.specs.Told.{Told}
-use Rattle.session_core.specs.Turns.{AreTurns, after_turns, is_complete}
-use Rattle.session_core.specs.Headline.{IsTaken, commands_of}
+use Rattle.session_core.specs.Moments.{Moment, plan_at}
+use Rattle.session_core.specs.Sessions.{AreTurns, AreKeyDecisions, IsTaken, moment_after, accepted_in, entries_of, commands_of}
+use Rattle.session_core.specs.Told.{Heard}
+use Rattle.session_core.specs.Turns.{BeginTrials, held_back}
 
--- a receive stands before the first flush
-abbrev pub receives_early : {T O : Type 0} → List (Call T O) → Bool
-receives_early [] = false
-receives_early (Send frame parameters ∷ calls) = receives_early calls
-receives_early (Flush ∷ calls) = false
-receives_early (Receive ∷ calls) = true
+-- a receive at this moment codes the command of this number
+pub record Codes {T O : Type 0} (enc : EncoderConfig) (moment : Moment T O) (number : ℕ) (command : Command) : Type 0 where
+  pub due : held_back enc moment ≡ None
+  pub next : moment.commands ≡ number
+  pub command_of : slice_get (plan_at enc moment) number ≡ Some command
 
--- the coder failed in the receive that codes command number `command`: the calls before it were answered as the table
--- says, and the coder took what they coded, which is the plan's first commands
-pub record FailsAt {T O : Type 0} (enc : EncoderConfig) (calls : List (Call T O)) (before after : Option (List (Told T))) (command : ℕ) : Type 0 where
+-- the coder failed in the receive that codes command number `number`: the calls before it were answered as the table says,
+-- and the coder took what they coded, which is the plan's first commands, and what was tried for this command
+pub record FailsAt {T O : Type 0} (enc : EncoderConfig) (calls : List (Call T O)) (before after : Heard T) (number : ℕ) : Type 0 where
   pub done : ℕ
   pub turns : List (Turn T O)
+  pub decisions : List Decision
+  pub command : Command
+  pub trials : List LogEntry
   pub at_receive : slice_get calls done ≡ Some Receive
-  pub answered : AreTurns enc opening (take done calls) turns
-  pub flushed : (after_turns opening (take done calls) turns).flushed ≡ true
-  pub open_yet : is_complete (after_turns opening (take done calls) turns) ≡ false
-  pub number : (after_turns opening (take done calls) turns).commands ≡ command
-  pub coded : length (commands_of turns) ≡ command
-  pub first : commands_of turns ≡ take command (plan_at enc (after_turns opening (take done calls) turns))
-  pub taken : IsTaken (take done calls) turns before after
+  pub answered : AreTurns enc decisions (take done calls) turns
+  pub decided : decisions ≡ (moment_after enc decisions (take done calls) turns).decisions
+  pub keys : AreKeyDecisions (accepted_in (take done calls) turns) decisions
+  pub due : Codes enc (moment_after enc decisions (take done calls) turns) number command
+  pub coded : length (commands_of turns) ≡ number
+  pub first : commands_of turns ≡ take number (plan_at enc (moment_after enc decisions (take done calls) turns))
+  pub tried : BeginTrials enc (moment_after enc decisions (take done calls) turns) command trials
+  pub taken : IsTaken (accepted_in (take done calls) turns) (entries_of turns ++ trials) before after

@@ -1,7 +1,8 @@
 pub mod Answers
-pub mod Headline
+pub mod Decisions
 pub mod Moments
 pub mod PacketText
+pub mod Sessions
 pub mod States
 pub mod Told
 pub mod Turns

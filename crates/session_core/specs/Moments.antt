@@ -1,71 +1,72 @@
--- The state of a session as its calls and answers give it, the key decisions, and the plan of a moment.
-use Rattle.std.specs.Prelude.{ℕ, ◌+◌, ◌-◌, ◌^◌, Bool, false, if◌then◌else◌, List, [], ◌∷◌, map, filter, length}
-use Rattle.std.specs.List.{range_with_len}
-use Rattle.std.specs.Option.{option_map_or}
+-- What contracts see of a session at a moment, and the plan of a moment.
+use Rattle.std.specs.Prelude.{ℕ, ◌-◌, Bool, false, nat_lt, ◌==◌, if◌then◌else◌, List, [], Option, None}
 use Rattle.std.specs.List.{slice_get}
 use Rattle.av1_frame.specs.declared.frame.Frame.{Frame}
 use Rattle.av1_settings.specs.declared.encoder.EncoderConfig.{EncoderConfig}
+use Rattle.av1_settings.specs.declared.frame_type.FrameType.{FrameType}
 use Rattle.pyramid.specs.declared.command.Command.{Command}
-use Rattle.pyramid.specs.Numbers.{Numbers}
-use Rattle.pyramid.specs.Settings.{numbers_of, interval_of}
+use Rattle.av1_settings.specs.Settings.{interval_of}
+use Rattle.pyramid.specs.Settings.{numbers_of}
 use Rattle.pyramid.specs.Plan.{plan}
+use Rattle.pyramid.specs.Known.{known}
 use Rattle.session_core.specs.declared.transcript.Decision.{Decision}
+use Rattle.session_core.specs.Decisions.{keys_of}
 
--- an accepted frame: its picture, and whether it was sent as a key frame
-pub record Accepted (T : Type 0) : Type 0 where
+-- a frame as it was accepted: its picture, whether it was sent as a key frame, and the value sent with it
+pub record Accepted (T O : Type 0) : Type 0 where
   pub picture : Frame T
   pub forced : Bool
+  pub opaque : Option O
 
--- the accepted frames in order, whether no more come, how many commands were coded and packets given, and the bytes
--- coded since the last packet
-pub record Moment (T : Type 0) : Type 0 where
-  pub sent : List (Accepted T)
+-- how a frame was coded
+pub record Coding : Type 0 where
+  pub kind : FrameType
+
+-- an accepted frame whose packet isn't given, and how it was coded, if it was
+pub record Waiting (T O : Type 0) : Type 0 where
+  pub frame : Accepted T O
+  pub coded : Option Coding
+
+-- a session at a moment: how many frames were accepted, whether no more come, how many commands were coded and packets
+-- given, the decisions made, the frames that wait for their packets (the first is the next packet's), and the bytes coded
+-- since the last packet
+pub record Moment (T O : Type 0) : Type 0 where
+  pub accepted : ℕ
   pub flushed : Bool
   pub commands : ℕ
   pub packets : ℕ
+  pub decisions : List Decision
+  pub waiting : List (Waiting T O)
   pub pending : List ℕ
 
-abbrev pub opening : {T : Type 0} → Moment T
-opening = record { sent = []; flushed = false; commands = 0; packets = 0; pending = [] }
+abbrev pub opening : {T O : Type 0} → Moment T O
+opening = record {
+  accepted = 0;
+  flushed = false;
+  commands = 0;
+  packets = 0;
+  decisions = [];
+  waiting = [];
+  pending = [];
+}
 
--- how many frames have to follow a position before it is decided
-abbrev pub ahead_of : Numbers → ℕ
-ahead_of numbers = 2 ^ numbers.depth + 2
+-- the frame of a number, while it waits
+abbrev pub waiting_at : {T O : Type 0} → Moment T O → ℕ → Option (Waiting T O)
+waiting_at moment number =
+    if nat_lt number moment.packets then None else slice_get moment.waiting (number - moment.packets)
 
--- how many positions are decided, from 1 on: those with enough frames behind them, and all once no more come
-abbrev pub decided_count : {T : Type 0} → EncoderConfig → Moment T → ℕ
-decided_count enc moment =
-    if moment.flushed then length moment.sent - 1 else length moment.sent - (ahead_of (numbers_of enc) + 1)
+-- every accepted frame's packet was given
+abbrev pub is_complete : {T O : Type 0} → Moment T O → Bool
+is_complete moment = moment.packets == moment.accepted
 
--- whether the frame at a position was sent as a key frame
-abbrev pub forced_at : {T : Type 0} → List (Accepted T) → ℕ → Bool
-forced_at sent position = option_map_or (λ accepted. accepted.forced) (slice_get sent position) false
+-- the plan that the accepted frames and the decisions of a moment give
+abbrev pub plan_at : {T O : Type 0} → EncoderConfig → Moment T O → List Command
+plan_at enc moment =
+    plan (numbers_of enc) (interval_of enc.max_key_frame_interval) moment.accepted (keys_of moment.accepted moment.decisions)
 
--- a position that isn't forced is no key
-abbrev pub decision_at : {T : Type 0} → List (Accepted T) → ℕ → Decision
-decision_at sent position =
-    record { position = position; forced = forced_at sent position; key = forced_at sent position }
-
--- the decisions on the first positions from 1 on
-abbrev pub decisions_on : {T : Type 0} → List (Accepted T) → ℕ → List Decision
-decisions_on sent count = map (decision_at sent) (range_with_len 1 count)
-
--- the decisions made so far, by rising position
-abbrev pub decisions_at : {T : Type 0} → EncoderConfig → Moment T → List Decision
-decisions_at enc moment = decisions_on moment.sent (decided_count enc moment)
-
--- the positions of these decisions that are keys
-abbrev pub key_positions : List Decision → List ℕ
-key_positions decisions = map (λ decision. decision.position) (filter (λ decision. decision.key) decisions)
-
--- position 0 is a key, once it is there
-abbrev pub keys_from : {T : Type 0} → List (Accepted T) → List Decision → List ℕ
-keys_from [] decisions = []
-keys_from (_ ∷ _) decisions = 0 ∷ key_positions decisions
-
-abbrev pub keys_at : {T : Type 0} → EncoderConfig → Moment T → List ℕ
-keys_at enc moment = keys_from moment.sent (decisions_at enc moment)
-
--- the plan that the accepted frames and the key decisions of a moment give
-abbrev pub plan_at : {T : Type 0} → EncoderConfig → Moment T → List Command
-plan_at enc moment = plan (numbers_of enc) (interval_of enc) (length moment.sent) (keys_at enc moment)
+-- what of it is known: all of it once no more frames come
+abbrev pub known_at : {T O : Type 0} → EncoderConfig → Moment T O → List Command
+known_at enc moment =
+    if moment.flushed
+    then plan_at enc moment
+    else known (numbers_of enc) (interval_of enc.max_key_frame_interval) moment.accepted (keys_of moment.accepted moment.decisions)

@@ -1,84 +1,99 @@
 -- The state of a session as a moment, and what each step of it knows and leaves.
-use Rattle.std.specs.Prelude.{◌≡◌, ℕ, ◌≤◌, ◌<◌, true, false, List, [], map, length, Option, Some, None}
-use Rattle.std.specs.Option.{option_map}
-use Rattle.std.specs.List.{slice_get}
+use Rattle.std.specs.Prelude.{◌≡◌, ℕ, ◌+◌, ◌≤◌, ◌<◌, false, List, [], ◌∷◌, map, length, IsSome, Option, Some, None}
+use Rattle.std.specs.Option.{option_map, option_and_then, option_to_list}
+use Rattle.std.specs.List.{flat_map, range_with_len, slice_get}
 use Rattle.coding_base.specs.Faults.{Rose}
 use Rattle.av1_settings.specs.declared.encoder.EncoderConfig.{EncoderConfig}
 use Rattle.pyramid.specs.declared.command.Command.{Command}
 use Rattle.pyramid.specs.declared.command.Command.TheVariants.{Code, Show}
+use Rattle.pyramid.specs.Settings.{numbers_of}
 use Rattle.session_core.specs.declared.session.SessionError.{SessionError}
 use Rattle.session_core.specs.declared.session.SessionError.TheVariants.{Invalid, CoderFault, OutOfMemory, Unbuilt}
-use Rattle.session_core.specs.declared.state.SentFrame.{SentFrame}
+use Rattle.session_core.specs.declared.state.WaitingFrame.{WaitingFrame}
 use Rattle.session_core.specs.declared.state.SessionState.{SessionState}
+use Rattle.session_core.specs.declared.transcript.Decision.{Decision}
 use Rattle.session_core.specs.declared.transcript.LogEntry.{LogEntry}
-use Rattle.session_core.specs.Moments.{Accepted, Moment, decisions_at, plan_at}
-use Rattle.session_core.specs.Told.{Told, Grew}
-use Rattle.session_core.specs.Turns.{frame_limit, is_complete}
+use Rattle.session_core.specs.Answers.{Codes}
+use Rattle.session_core.specs.Decisions.{decided_count, keys_of}
+use Rattle.session_core.specs.Moments.{Waiting, Moment, waiting_at, plan_at}
+use Rattle.session_core.specs.Told.{Told, Coded, Shown, Grew, OnlyGrew}
+use Rattle.session_core.specs.Turns.{BeginTrials, forced_at, frame_limit, held_back}
 
-abbrev pub accepted_of : {T O : Type 0} → SentFrame T O → Accepted T
-accepted_of frame = record { picture = frame.picture.value; forced = frame.forced }
+abbrev pub waiting_of : {T O : Type 0} → WaitingFrame T O → Waiting T O
+waiting_of one = record {
+  frame = record { picture = one.picture.value; forced = one.forced; opaque = one.opaque };
+  coded = option_map (λ kind. record { kind = kind }) one.kind;
+}
 
-abbrev pub moment_of : {T O : Type 0} → SessionState T O → Moment T
+abbrev pub moment_of : {T O : Type 0} → SessionState T O → Moment T O
 moment_of state = record {
-  sent = map accepted_of state.sent.items;
+  accepted = state.accepted;
   flushed = state.flushed;
   commands = state.commands;
   packets = state.packets;
+  decisions = state.decisions.items;
+  waiting = map waiting_of state.waiting.items;
   pending = state.pending.items;
 }
 
--- the decisions kept are those of the moment
-abbrev pub KeepsDecisions : {T O : Type 0} → EncoderConfig → SessionState T O → Type 0
-KeepsDecisions enc state = state.decisions.items ≡ decisions_at enc (moment_of state)
+-- the keys kept are those of the moment
+abbrev pub KeepsKeys : {T O : Type 0} → SessionState T O → Type 0
+KeepsKeys state = state.keys.items ≡ keys_of state.accepted state.decisions.items
 
--- a frame that a command codes is below the count
-abbrev pub CodesBelow : ℕ → Command → Type 0
-CodesBelow count (Code frame kind refs refresh shown) = frame < count
-CodesBelow count (Show slot) = Unit {0}
+-- the decision on a position where nobody but the sender decides
+abbrev pub sent_decision : {T O : Type 0} → Moment T O → ℕ → Decision
+sent_decision moment number =
+    record { position = number; forced = forced_at moment number; key = forced_at moment number }
 
--- what a receive needs of the moment: the next command is there while packets are missing, and codes a frame that was
--- sent
-pub record IsReady {T : Type 0} (enc : EncoderConfig) (moment : Moment T) : Type 0 where
-  pub few : length moment.sent ≤ frame_limit
-  pub next : moment.flushed ≡ true → is_complete moment ≡ false → moment.commands < length (plan_at enc moment)
-  pub packets : moment.packets ≤ length moment.sent
-  pub frames : (command : Command) → slice_get (plan_at enc moment) moment.commands ≡ Some command →
-      CodesBelow (length moment.sent) command
+-- those on so many positions from `from` on
+abbrev pub sent_decisions : {T O : Type 0} → Moment T O → ℕ → ℕ → List Decision
+sent_decisions moment from count = map (sent_decision moment) (range_with_len from count)
 
--- what a coder tells of an entry: a code was handed the picture sent under its number, a show the number of the next
--- packet
-abbrev pub told_at : {T : Type 0} → Moment T → LogEntry → Told T
+-- a coder can be given a command: the frame that it codes waits, or the first frame that waits is coded
+abbrev pub CanCode : {T O : Type 0} → Moment T O → Command → Type 0
+CanCode moment (Code frame kind refs refresh shown) = (moment.packets ≤ frame) × (frame < moment.accepted)
+CanCode moment (Show slot) = IsSome (option_and_then (λ waiting. waiting.coded) (slice_get moment.waiting 0))
+
+-- what a call needs of the moment
+pub record IsReady {T O : Type 0} (enc : EncoderConfig) (moment : Moment T O) : Type 0 where
+  pub few : moment.accepted ≤ frame_limit
+  pub waits : moment.packets + length moment.waiting ≡ moment.accepted
+  pub decided : length moment.decisions ≡ decided_count (numbers_of enc) moment.accepted moment.flushed
+  -- the lookahead keeps the frame before the next undecided position
+  pub late : moment.flushed ≡ false → moment.packets ≤ length moment.decisions
+  -- where a receive is to code, the next command is there, and can be coded
+  pub there : held_back enc moment ≡ None → moment.commands < length (plan_at enc moment)
+  pub next : (command : Command) → slice_get (plan_at enc moment) moment.commands ≡ Some command → CanCode moment command
+
+-- what a coder tells of an entry: a code was handed the picture that waits under its number, a show the number of the
+-- next packet
+abbrev pub told_at : {T O : Type 0} → Moment T O → LogEntry → List (Told T)
 told_at moment entry =
     elim entry.command [
-      | Code frame kind refs refresh shown ↦ record {
-        command = entry.command;
-        trial = entry.trial;
-        bytes = entry.bytes;
-        picture = option_map (λ accepted. accepted.picture) (slice_get moment.sent frame);
-        frame = None;
-      }
-      | Show slot ↦ record {
-        command = entry.command;
-        trial = entry.trial;
-        bytes = entry.bytes;
-        picture = None;
-        frame = Some moment.packets;
-      }
+      | Code frame kind refs refresh shown ↦
+          option_to_list (option_map (λ waiting. Coded (record {
+            command = entry.command;
+            trial = entry.trial;
+            picture = waiting.frame.picture;
+            bytes = entry.bytes;
+          })) (waiting_at moment frame))
+      | Show slot ↦ Shown (record { slot = slot; frame = moment.packets; bytes = entry.bytes }) ∷ []
     ]
-
--- a receive failed: the coder's count rose and it told nothing, or the session isn't flushed
-abbrev pub Fails : {T : Type 0} → Moment T → Option (List (Told T)) → Option (List (Told T)) → ℕ → ℕ → SessionError → Type 0
-Fails moment told_before told_after before after (Invalid refusal) = ⊥
-Fails moment told_before told_after before after (CoderFault command) =
-    (moment.flushed ≡ true) × (is_complete moment ≡ false) × (command ≡ moment.commands)
-    × Grew told_before told_after [] × Rose before after
-Fails moment told_before told_after before after OutOfMemory = Unit {0}
-Fails moment told_before told_after before after Unbuilt = moment.flushed ≡ false
 
 -- a call of the coder failed: its count rose and it told nothing, or memory ran out
 abbrev pub FailsCoding : {T : Type 0} → ℕ → Option (List (Told T)) → Option (List (Told T)) → ℕ → ℕ → SessionError → Type 0
 FailsCoding commands told_before told_after before after (Invalid refusal) = ⊥
-FailsCoding commands told_before told_after before after (CoderFault command) =
-    (command ≡ commands) × Grew told_before told_after [] × Rose before after
-FailsCoding commands told_before told_after before after OutOfMemory = Unit {0}
+FailsCoding commands told_before told_after before after (CoderFault number) =
+    (number ≡ commands) × Grew told_before told_after [] × Rose before after
+FailsCoding commands told_before told_after before after OutOfMemory = OnlyGrew told_before told_after
 FailsCoding commands told_before told_after before after Unbuilt = ⊥
+
+-- a call failed: in a receive the coder's count rose, and it told what was tried; or memory ran out, and what is told only
+-- grew
+abbrev pub Fails : {T O : Type 0} → EncoderConfig → Moment T O → Option (List (Told T)) → Option (List (Told T)) → ℕ → ℕ → SessionError → Type 0
+Fails enc moment told_before told_after before after (Invalid refusal) = ⊥
+Fails enc moment told_before told_after before after (CoderFault number) =
+    (command : Command) × (trials : List LogEntry) × Codes enc moment number command × BeginTrials enc moment command trials
+    × Grew told_before told_after (flat_map (told_at moment) trials) × Rose before after
+Fails enc moment told_before told_after before after OutOfMemory = OnlyGrew told_before told_after
+Fails enc moment told_before told_after before after Unbuilt = ⊥

@@ -1,28 +1,39 @@
 -- What a coder tells of its calls.
-use Rattle.std.specs.Prelude.{◌≡◌, ℕ, Bool, false, List, [], ◌∷◌, ◌++◌, Option, None, Some, Result, MatchResult, ⊤}
+use Rattle.std.specs.Prelude.{◌≡◌, ℕ, Bool, List, [], ◌∷◌, ◌++◌, Option, None, Some, Result, MatchResult, ⊤}
 use Rattle.av1_frame.specs.declared.frame.Frame.{Frame}
 use Rattle.pyramid.specs.declared.command.Command.{Command}
-use Rattle.pyramid.specs.declared.command.Command.TheVariants.{Show}
 use Rattle.session_core.specs.declared.coder.CodeJob.{CodeJob}
+use Rattle.session_core.specs.declared.coder.CodedFrame.{CodedFrame}
+use Rattle.session_core.specs.declared.coder.ShownFrame.{ShownFrame}
 
--- a call that gave bytes: the command, whether it was a trial, and the bytes; the picture that a code was handed, and
--- the frame number that a show was given
-pub record Told (T : Type 0) : Type 0 where
+-- a frame that was coded: the command, whether it was only tried, the picture that was handed over, and the bytes
+pub record CodedEntry (T : Type 0) : Type 0 where
   pub command : Command
   pub trial : Bool
+  pub picture : Frame T
   pub bytes : List ℕ
-  pub picture : Option (Frame T)
-  pub frame : Option ℕ
 
-abbrev pub told_code : {T : Type 0} → CodeJob T → List ℕ → Told T
-told_code job bytes =
-    record { command = job.command; trial = job.trial; bytes = bytes; picture = Some job.picture.value; frame = None }
+-- a slot that was shown: the number of the frame that the coder was told it holds, and the bytes
+pub record ShownEntry : Type 0 where
+  pub slot : ℕ
+  pub frame : ℕ
+  pub bytes : List ℕ
 
-abbrev pub told_show : {T : Type 0} → ℕ → ℕ → List ℕ → Told T
-told_show slot frame bytes =
-    record { command = Show slot; trial = false; bytes = bytes; picture = None; frame = Some frame }
+-- a call that gave bytes
+pub data Told (T : Type 0) : Type 0 where
+  Coded : CodedEntry T → Told T
+  Shown : ShownEntry → Told T
 
--- what is told grew by these entries
+-- what is told of a job and its answer
+abbrev pub told_code : {T : Type 0} → CodeJob T → CodedFrame → Told T
+told_code job coded =
+    Coded (record { command = job.command; trial = job.trial; picture = job.picture.value; bytes = coded.bytes })
+
+-- what is told of a slot, the number of its frame, and the answer
+abbrev pub told_show : {T : Type 0} → ℕ → ℕ → ShownFrame → Told T
+told_show slot frame shown = Shown (record { slot = slot; frame = frame; bytes = shown.bytes })
+
+-- what is told grew by these entries; a coder that tells goes on telling
 abbrev pub Grew : {T : Type 0} → Option (List (Told T)) → Option (List (Told T)) → List (Told T) → Type 0
 Grew None after entries = ⊤
 Grew (Some before) None entries = ⊥
@@ -30,4 +41,13 @@ Grew (Some before) (Some after) entries = after ≡ before ++ entries
 
 -- what is told grew by the entry of a call that gave a value, and stayed where the call failed
 abbrev pub GrowsBy : {T V E : Type 0} → Option (List (Told T)) → Option (List (Told T)) → Result V E → (V → Told T) → Type 0
-GrowsBy before after result entry = MatchResult result (λ value. Grew before after (entry value ∷ [])) (λ _. Grew before after [])
+GrowsBy before after result entry =
+    MatchResult result (λ value. Grew before after (entry value ∷ [])) (λ _. Grew before after [])
+
+-- what is told only grew
+abbrev pub OnlyGrew : {T : Type 0} → Option (List (Told T)) → Option (List (Told T)) → Type 0
+OnlyGrew {T} before after = (entries : List (Told T)) × Grew before after entries
+
+-- what those outside a session tell
+pub record Heard (T : Type 0) : Type 0 where
+  pub coder : Option (List (Told T))

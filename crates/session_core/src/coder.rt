@@ -8,6 +8,7 @@ use coding_base::{Bytes, OutOfMemory};
 use pyramid::Command;
 use std::alloc::{AllocError, Global};
 use std::sync::Arc;
+use thiserror::Error;
 
 /// What a coder is handed for a frame.
 #[derive(Drop)]
@@ -28,18 +29,20 @@ pub struct CodedFrame {
 }
 
 /// What a coder gives back for a frame that it shows from a slot.
-#[derive(Clone, Copy, Debug)]
+#[derive(Drop)]
 pub struct ShownFrame {
     /// The three bytes of the header.
     pub bytes: [u8; 3],
 }
 
 /// Why a coder gave nothing.
-#[derive(Clone, Copy, Debug, PartialEq, Eq)]
+#[derive(Clone, Copy, Debug, PartialEq, Eq, Error)]
 pub enum CoderError {
     /// The coder failed, and its count of faults rose.
+    #[error("the coder failed")]
     Failed,
     /// Memory ran out.
+    #[error("out of memory")]
     OutOfMemory,
 }
 
@@ -75,14 +78,14 @@ pub trait FrameCoder<T> {
 
     /// Codes a frame.
     fn code(&mut self, alloc: Global, job: &CodeJob<T>) -> Result<CodedFrame, CoderError>
-        ensures told { GrowsBy (told self.old) (told self.new) result (λ coded. told_code job.now coded.bytes) }
+        ensures told { GrowsBy (told self.old) (told self.new) result (told_code job.now) }
         ensures some_bytes { IfOk result (λ coded. 0 < length coded.bytes) }
         ensures few_bytes { IfOk result (λ coded. length coded.bytes < 2 ^ 48) }
         ensures cause { HasCause Failed (faults self.old) (faults self.new) result };
 
     /// Shows what a slot holds, which is this frame.
     fn show(&mut self, alloc: Global, slot: u8, frame: u64) -> Result<ShownFrame, CoderError>
-        ensures told { GrowsBy (told self.old) (told self.new) result (λ shown. told_show slot frame shown.bytes) }
+        ensures told { GrowsBy (told self.old) (told self.new) result (told_show slot frame) }
         ensures cause { HasCause Failed (faults self.old) (faults self.new) result };
 
     /// How often the coder failed; the count stands still at its last value.

@@ -32,3 +32,25 @@ impl<T, O> fmt::Display for Packet<T, O> {
         write!(f, "Frame {number} - {frame_type} - {len} bytes")
     }
 }
+
+impl<T, O> PartialEq for Packet<T, O> {
+    ghost use Rattle.std.specs.Prelude.{◌==◌};
+    ghost use Rattle.std.proofs.Common.{rules};
+    ghost use Rattle.av1_settings.specs.contracts.frame_type.FrameTypePartialEq.TheImpl.Laws.{laws-law};
+    ghost use Rattle.std.specs.Cmp.Lexicographic.{pointwise};
+    ghost use Rattle.std.specs.Cmp.Rules.{comparing};
+    ghost use Rattle.std.specs.Ordering.{on, eq_of_both};
+
+    // Equal bytes, numbers and types; the frames and opaque values don't count.
+    ghost eq = { eq_of_both (on (λ p. p.bytes) (pointwise ◌==◌))
+        (eq_of_both (on (λ p. p.input_frameno) ◌==◌)
+        (on (λ p. p.frame_type) ⟦<FrameType as PartialEq>⟧.eq)) };
+
+    ghost laws = { Prim.search (comparing, rules, laws-law) depth 9 };
+
+    fn eq(&self, other: &Packet<T, O>) -> bool {
+        self.bytes.as_slice() == other.bytes.as_slice()
+            && self.input_frameno == other.input_frameno
+            && self.frame_type == other.frame_type
+    }
+}

@@ -1,34 +1,37 @@
-ghost use Rattle.std.specs.Prelude.{◌≡◌, ◌≤◌, ◌⊎◌, ℕ, [], false, IsTrue, None, Some, IfOk, IsOk, IsErrOf};
+ghost use Rattle.std.specs.Prelude.{◌≡◌, ◌≤◌, ◌⊎◌, ℕ, [], None, Some, Err, IfOk, IsOk, pos, ◌<ℤ◌};
 ghost use Rattle.coding_base.specs.Faults.{Rose};
 ghost use Rattle.av1_settings.specs.declared.invalid.InvalidConfig.{InvalidConfig};
-ghost use Rattle.av1_settings.specs.Checks.{refusal_of};
+ghost use Rattle.av1_settings.specs.Checks.{session_refusal};
 ghost use Rattle.session_core.specs.declared.session.SessionError.TheVariants.{Invalid, CoderFault, Unbuilt};
-ghost use Rattle.session_core.specs.Answers.{FailsAt, receives_early};
-ghost use Rattle.session_core.specs.Headline.{Headline, IsTaken};
-ghost use Rattle.session_core.specs.Moments.{opening, decisions_at};
-ghost use Rattle.session_core.specs.Told.{Grew};
-ghost use Rattle.session_core.specs.Turns.{AreTurns, after_turns};
+ghost use Rattle.session_core.specs.Answers.{FailsAt};
+ghost use Rattle.session_core.specs.Sessions.{IsSessionRun};
+ghost use Rattle.session_core.specs.Told.{OnlyGrew};
 
 use crate::state::SessionState;
 use crate::{Call, DecisionList, FrameCoder, Transcript, TurnList};
 use av1_frame::Pixel;
-use av1_settings::{Config, InvalidConfig};
+use av1_settings::{Config, InvalidConfig, LevelTables};
 use coding_base::OutOfMemory;
 use std::alloc::{AllocError, AllocFailed, Global};
+use thiserror::Error;
 
 /// Why a list of calls wasn't carried out to its end.
-#[derive(Clone, Copy, Debug, PartialEq, Eq)]
+#[derive(Clone, Copy, Debug, PartialEq, Eq, Error)]
 pub enum SessionError {
     /// The configuration is refused.
+    #[error("invalid configuration: {0}")]
     Invalid(InvalidConfig),
     /// The coder failed.
+    #[error("the coder failed at command {command}")]
     CoderFault {
         /// The number of commands coded before.
         command: u64,
     },
     /// Memory ran out.
+    #[error("out of memory")]
     OutOfMemory,
-    /// A receive stands before the first flush, which sessions don't do yet.
+    /// A bitrate is asked for, which sessions don't follow yet.
+    #[error("sessions with a bitrate aren't built yet")]
     Unbuilt,
 }
 
@@ -66,37 +69,60 @@ impl<T: Drop> From<AllocFailed<T>> for SessionError {
 }
 
 /// Carries out a list of calls in order, has the coder code what their plan asks for, and says of each call what it answered
-/// and coded. The plan is that of the frames accepted and the keys decided so far (docs/RULES.md).
+/// and coded. The plan is that of the frames accepted and the keys decided so far (docs/RULES.md). `levels` has the limits of
+/// the AV1 specification's levels, against which the configuration is checked.
 ///
-/// The errors are `Invalid`, with the configuration's first refusal; `CoderFault` where the coder failed; `Unbuilt` where a
-/// receive stands before the first flush; `OutOfMemory`.
+/// The errors are `Invalid`, with the configuration's first refusal, one of which is a bit depth above the pixel type's;
+/// `Unbuilt` where a bitrate is asked for; `CoderFault` where the coder failed; `OutOfMemory`.
 pub fn run_session<T: Pixel, O: Drop, C: FrameCoder<T>>(
     alloc: Global,
     cfg: &Config,
+    levels: &LevelTables,
     coder: &mut C,
     calls: Vec<Call<T, O>>,
 ) -> Result<Transcript<T, O>, SessionError>
-    // The headline.
-    ensures turns { IfOk result (λ t. AreTurns cfg.now.enc opening calls.items t.turns) }
-    ensures headline { IfOk result (λ t. Headline cfg.now.enc calls.items t.turns) }
-    ensures taken { IfOk result (λ t. IsTaken calls.items t.turns (C.told coder.old) (C.told coder.new)) }
-    ensures decisions { IfOk result (λ t. t.decisions ≡ decisions_at cfg.now.enc (after_turns opening calls.items t.turns)) }
+    // The headline, and what stands beside it.
+    ensures session { IfOk result (λ t.
+        IsSessionRun cfg.now.enc calls.items t (record { coder = C.told coder.old })
+        (record { coder = C.told coder.new })) }
 
     // When each error comes.
-    ensures invalid { (v : InvalidConfig) → result ≡ Err (Invalid v) → refusal_of cfg.now ≡ Some v }
-    ensures refused { (v : InvalidConfig) → refusal_of cfg.now ≡ Some v → result ≡ Err (Invalid v) }
-    ensures unbuilt { result ≡ Err Unbuilt → (refusal_of cfg.now ≡ None) × IsTrue (receives_early calls.items) }
-    ensures fault { (command : ℕ) → result ≡ Err (CoderFault command) → FailsAt cfg.now.enc calls.items (C.told coder.old) (C.told coder.new) command }
-    ensures fault_cause { (command : ℕ) → result ≡ Err (CoderFault command) → Rose (C.faults coder.old) (C.faults coder.new) }
-    ensures early { refusal_of cfg.now ≡ None → IsTrue (receives_early calls.items) → (result ≡ Err Unbuilt) ⊎ (result ≡ Err SessionError.OutOfMemory) }
-    ensures complete { refusal_of cfg.now ≡ None → receives_early calls.items ≡ false → ¬ Rose (C.faults coder.old) (C.faults coder.new) → IsOk result ⊎ (result ≡ Err SessionError.OutOfMemory) }
+    ensures invalid { (v : InvalidConfig)
+        → result ≡ Err (Invalid v)
+        → session_refusal T.BITS levels.now cfg.now ≡ Some v }
+    ensures refused { (v : InvalidConfig)
+        → session_refusal T.BITS levels.now cfg.now ≡ Some v
+        → result ≡ Err (Invalid v) }
+    ensures unbuilt { result ≡ Err Unbuilt
+        → (session_refusal T.BITS levels.now cfg.now ≡ None) × (pos 0 <ℤ cfg.now.enc.bitrate) }
+    ensures bitrate { session_refusal T.BITS levels.now cfg.now ≡ None
+        → pos 0 <ℤ cfg.now.enc.bitrate
+        → result ≡ Err Unbuilt }
+    ensures fault { (command : ℕ)
+        → result ≡ Err (CoderFault command)
+        → FailsAt cfg.now.enc calls.items (record { coder = C.told coder.old })
+        (record { coder = C.told coder.new }) command }
+    ensures fault_cause { (command : ℕ)
+        → result ≡ Err (CoderFault command)
+        → Rose (C.faults coder.old) (C.faults coder.new) }
+    ensures complete { session_refusal T.BITS levels.now cfg.now ≡ None
+        → ¬ (pos 0 <ℤ cfg.now.enc.bitrate)
+        → ¬ Rose (C.faults coder.old) (C.faults coder.new)
+        → IsOk result ⊎ (result ≡ Err SessionError.OutOfMemory) }
 
-    // The coder's count doesn't fall, and the coder isn't called where the configuration is refused.
+    // The coder's count doesn't fall, and what it tells only grows; it isn't called where the session doesn't begin.
     ensures later { C.faults coder.old ≤ C.faults coder.new }
-    ensures untouched { (v : InvalidConfig) → refusal_of cfg.now ≡ Some v → Grew (C.told coder.old) (C.told coder.new) [] }
+    ensures kept { OnlyGrew (C.told coder.old) (C.told coder.new) }
+    ensures untouched { (v : InvalidConfig)
+        → session_refusal T.BITS levels.now cfg.now ≡ Some v
+        → coder.new ≡ coder.old }
+    ensures unstarted { result ≡ Err Unbuilt → coder.new ≡ coder.old }
 {
-    if let Err(refusal) = cfg.validate() {
+    if let Err(refusal) = cfg.validate_for_session(levels, T::BITS) {
         return Err(SessionError::Invalid(refusal));
+    }
+    if cfg.enc.bitrate > 0 {
+        return Err(SessionError::Unbuilt);
     }
     let mut state = SessionState::new(alloc);
     let mut turns = Vec::new(alloc);

@@ -1,13 +1,15 @@
 // The state of a session, and what one call does to it.
-ghost use Rattle.std.specs.Prelude.{◌≡◌, ◌≤◌, ◌<◌, ◌-◌, ◌+◌, ℕ, [], ◌∷◌, map, false, true, IfOk, IfErr, OnOk, length, take, if◌then◌else◌, ◌==◌};
-ghost use Rattle.coding_base.specs.Faults.{Rose};
+ghost use Rattle.std.specs.Prelude.{◌≡◌, ◌≤◌, ◌<◌, ◌-◌, ◌+◌, [], ◌∷◌, ◌++◌, false, IfOk, IfErr, IsSome, OnOk, length, take, drop, Some};
+ghost use Rattle.std.specs.List.{flat_map, slice_get};
+ghost use Rattle.std.specs.Option.{option_map};
 ghost use Rattle.session_core.specs.declared.call.Call.TheVariants.{Receive};
 ghost use Rattle.session_core.specs.declared.session.SessionError.TheVariants.{CoderFault};
-ghost use Rattle.session_core.specs.declared.transcript.Reply.TheVariants.{Flushed};
-ghost use Rattle.session_core.specs.Moments.{opening, decisions_on, decided_count, keys_from, plan_at};
-ghost use Rattle.session_core.specs.States.{accepted_of, moment_of, told_at, CodesBelow, Fails, FailsCoding, IsReady, KeepsDecisions};
+ghost use Rattle.session_core.specs.declared.transcript.Reply.TheVariants.{Flushed, Status};
+ghost use Rattle.session_core.specs.Decisions.{AreUnasked};
+ghost use Rattle.session_core.specs.Moments.{opening, is_complete, plan_at};
+ghost use Rattle.session_core.specs.States.{waiting_of, moment_of, told_at, sent_decisions, CanCode, Fails, FailsCoding, IsReady, KeepsKeys};
 ghost use Rattle.session_core.specs.Told.{Grew};
-ghost use Rattle.session_core.specs.Turns.{IsNextPacket, IsReceived, IsTurn, after_receive, after_send, after_turn, asks_key, coded_kind, frame_limit, is_complete, is_showing, sent_reply};
+ghost use Rattle.session_core.specs.Turns.{Decides, IsNextPacket, IsReceived, IsTurn, accepted_of, after_flush, after_receive, after_send, after_turn, frame_limit, has_enough, held_back, is_showing, needs_more_data, noted, sent_reply, shown_coding};
 
 use crate::{
     Call, CodeJob, CoderError, Decision, FrameCoder, FrameParameters, FrameTypeOverride, LogEntry,
@@ -18,39 +20,43 @@ use av1_settings::{EncoderConfig, EncoderStatus, FrameType};
 use coding_base::{Bytes, OutOfMemory};
 use pyramid::{Command, InterConfig, plan};
 use std::alloc::Global;
+use std::collections::VecDeque;
 use std::sync::Arc;
 
 /// The most frames that a session accepts.
-const FRAME_LIMIT: usize = 2147483646;
-
-/// The interval that a maximum of 0 stands for.
-const MAX_KEY_FRAME_INTERVAL: u64 = 715827882;
+const FRAME_LIMIT: u64 = 2147483646;
 
 /// The bytes that begin a packet: a temporal delimiter without a payload.
 const DELIMITER: [u8; 2] = [0x12, 0x00];
 
-/// A frame as it was sent.
+/// An accepted frame, until its packet is given.
 #[derive(Drop)]
-pub(crate) struct SentFrame<T, O> {
+pub(crate) struct WaitingFrame<T, O> {
     pub(crate) picture: Arc<Frame<T>>,
     pub(crate) forced: bool,
     /// The value sent with it, until its packet takes it.
     pub(crate) opaque: Option<O>,
+    /// Its type, once it is coded.
+    pub(crate) kind: Option<FrameType>,
 }
 
 /// All of a session but its coder.
 #[derive(Drop)]
 pub(crate) struct SessionState<T, O> {
-    /// The accepted frames, in order.
-    pub(crate) sent: Vec<SentFrame<T, O>>,
-    /// The decisions made so far, by rising position.
-    pub(crate) decisions: Vec<Decision>,
+    /// How many frames were accepted.
+    pub(crate) accepted: u64,
     /// Whether no more frames come.
     pub(crate) flushed: bool,
     /// How many commands were coded.
     pub(crate) commands: u64,
     /// How many packets were given.
     pub(crate) packets: u64,
+    /// The decisions made so far, by rising position.
+    pub(crate) decisions: Vec<Decision>,
+    /// The keys among the accepted frames, as far as they are decided.
+    pub(crate) keys: Vec<u64>,
+    /// The frames whose packets aren't given, in order.
+    pub(crate) waiting: VecDeque<WaitingFrame<T, O>>,
     /// The bytes coded since the last packet.
     pub(crate) pending: Vec<u8>,
 }
@@ -58,14 +64,16 @@ pub(crate) struct SessionState<T, O> {
 impl<T, O> SessionState<T, O> {
     pub(crate) fn new(alloc: Global) -> SessionState<T, O>
         ensures moment { moment_of result ≡ opening }
-        ensures decisions { result.decisions.items ≡ [] }
+        ensures keys { KeepsKeys result }
     {
         SessionState {
-            sent: Vec::new(alloc),
-            decisions: Vec::new(alloc),
+            accepted: 0,
             flushed: false,
             commands: 0,
             packets: 0,
+            decisions: Vec::new(alloc),
+            keys: Vec::new(alloc),
+            waiting: VecDeque::new(alloc),
             pending: Vec::new(alloc),
         }
     }
@@ -81,18 +89,28 @@ impl<T: Drop, O: Drop> SessionState<T, O> {
         call: Call<T, O>,
     ) -> Result<Turn<T, O>, SessionError>
         requires ready { IsReady enc.now (moment_of self.old) }
-        requires decisions { KeepsDecisions enc.now self.old }
-        ensures turn { IfOk result (λ turn. IsTurn enc.now (moment_of self.old) call turn) }
-        ensures after { IfOk result (λ turn. moment_of self.new ≡ after_turn (moment_of self.old) call turn) }
-        ensures decisions { OnOk result (KeepsDecisions enc.now self.new) }
-        ensures told { IfOk result (λ turn. Grew (C.told coder.old) (C.told coder.new) (map (told_at (moment_of self.old)) turn.log)) }
-        ensures failed { IfErr result (λ error. Fails (moment_of self.old) (C.told coder.old) (C.told coder.new) (C.faults coder.old) (C.faults coder.new) error) }
-        ensures receives { IfErr result (λ error. (error ≡ SessionError.OutOfMemory → ⊥) → call ≡ Receive) }
+        requires keys { KeepsKeys self.old }
+        ensures turn { IfOk result (λ turn.
+            IsTurn enc.now self.new.decisions.items (moment_of self.old) call turn) }
+        ensures after { IfOk result (λ turn.
+            moment_of self.new
+            ≡ after_turn enc.now self.new.decisions.items (moment_of self.old) call turn) }
+        ensures unasked { OnOk result (
+            AreUnasked (drop (length self.old.decisions.items) self.new.decisions.items)) }
+        ensures keys { OnOk result (KeepsKeys self.new) }
+        ensures told { IfOk result (λ turn.
+            Grew (C.told coder.old) (C.told coder.new)
+            (flat_map (told_at (moment_of self.old)) turn.log)) }
+        ensures failed { IfErr result (λ error.
+            Fails enc.now (moment_of self.old) (C.told coder.old) (C.told coder.new)
+            (C.faults coder.old) (C.faults coder.new) error) }
+        ensures receives { IfErr result
+            (λ error. (error ≡ SessionError.OutOfMemory → ⊥) → call ≡ Receive) }
         ensures later { C.faults coder.old ≤ C.faults coder.new }
     {
         let reply = match call {
             Call::Send(frame, parameters) => self.send(enc, frame, parameters)?,
-            Call::Flush => self.flush()?,
+            Call::Flush => self.flush(enc)?,
             Call::Receive => return self.receive(alloc, enc, coder),
         };
         Ok(Turn {
@@ -101,67 +119,104 @@ impl<T: Drop, O: Drop> SessionState<T, O> {
         })
     }
 
-    /// Accepts a frame, and decides the position that has enough frames behind it now.
+    // Accepts a frame, and decides the position that has enough frames behind it now.
     fn send(
         &mut self,
         enc: &EncoderConfig,
         frame: Arc<Frame<T>>,
         parameters: Option<FrameParameters<O>>,
     ) -> Result<Reply<T, O>, OutOfMemory>
-        requires few { length self.old.sent.items ≤ frame_limit }
-        requires decisions { KeepsDecisions enc.now self.old }
-        ensures reply { IfOk result (λ reply. reply ≡ sent_reply enc.now (moment_of self.old) frame.value) }
-        ensures after { IfOk result (λ reply. moment_of self.new ≡ after_send (moment_of self.old) (record { picture = frame.value; forced = asks_key parameters }) reply) }
-        ensures decisions { OnOk result (KeepsDecisions enc.now self.new) }
+        requires ready { IsReady enc.now (moment_of self.old) }
+        requires keys { KeepsKeys self.old }
+        ensures reply { IfOk result
+            (λ reply. reply ≡ sent_reply enc.now (moment_of self.old) frame.value) }
+        ensures after { IfOk result (λ reply.
+            moment_of self.new
+            ≡ after_send enc.now self.new.decisions.items (moment_of self.old)
+            (accepted_of frame.value parameters) reply) }
+        ensures decides { OnOk result (Decides enc.now (moment_of self.old) (moment_of self.new)) }
+        ensures unasked { OnOk result (
+            AreUnasked (drop (length self.old.decisions.items) self.new.decisions.items)) }
+        ensures keys { OnOk result (KeepsKeys self.new) }
     {
-        if self.flushed || self.sent.len() == FRAME_LIMIT {
+        if self.has_enough(enc) {
             return Ok(Reply::Status(EncoderStatus::EnoughData));
         }
         if !frame.fits(enc.width, enc.height, enc.chroma_sampling) {
             return Ok(Reply::Status(EncoderStatus::FrameSizeMismatch));
         }
-        let number = self.sent.len() as u64;
-        self.sent.push(sent_frame(frame, parameters))?;
-        let behind = InterConfig::new(enc).keyframe_lookahead_distance() as usize + 2;
-        let accepted = self.sent.len();
-        self.decide(accepted.saturating_sub(behind))?;
+        let number = self.accepted;
+        self.waiting.push_back(waiting_frame(frame, parameters))?;
+        if number == 0 {
+            self.keys.push(0)?;
+        }
+        self.accepted = number + 1;
+        self.decide(
+            self.accepted
+                .saturating_sub(InterConfig::new(enc).ahead() + 1),
+        )?;
         Ok(Reply::Sent(number))
     }
 
-    /// Takes no further frame, and decides all positions that are left.
-    fn flush(&mut self) -> Result<Reply<T, O>, OutOfMemory>
-        requires decided { self.old.decisions.items ≡ decisions_on (moment_of self.old).sent (length self.old.decisions.items) }
-        requires within { length self.old.decisions.items ≤ length self.old.sent.items - 1 }
+    // Whether no further frame is taken.
+    fn has_enough(&self, enc: &EncoderConfig) -> bool
+        ensures { result ≡ has_enough enc.now (moment_of self.now) }
+    {
+        self.flushed || (enc.still_picture && self.accepted >= 1) || self.accepted == FRAME_LIMIT
+    }
+
+    // Takes no further frame, and decides all positions that are left.
+    fn flush(&mut self, enc: &EncoderConfig) -> Result<Reply<T, O>, OutOfMemory>
+        requires ready { IsReady enc.now (moment_of self.old) }
+        requires keys { KeepsKeys self.old }
         ensures reply { IfOk result (λ reply. reply ≡ Flushed) }
-        ensures after { OnOk result (moment_of self.new ≡ record (moment_of self.old) { flushed = true }) }
-        ensures decisions { OnOk result (self.new.decisions.items ≡ decisions_on (moment_of self.new).sent (length (moment_of self.new).sent - 1)) }
+        ensures after { OnOk result (
+            moment_of self.new
+            ≡ after_flush enc.now self.new.decisions.items (moment_of self.old)) }
+        ensures decides { OnOk result (Decides enc.now (moment_of self.old) (moment_of self.new)) }
+        ensures unasked { OnOk result (
+            AreUnasked (drop (length self.old.decisions.items) self.new.decisions.items)) }
+        ensures keys { OnOk result (KeepsKeys self.new) }
     {
         self.flushed = true;
-        let accepted = self.sent.len();
-        self.decide(accepted.saturating_sub(1))?;
+        self.decide(self.accepted.saturating_sub(1))?;
         Ok(Reply::Flushed)
     }
 
-    /// Decides the positions up to `last` that aren't decided yet: those that are forced are keys.
-    fn decide(&mut self, last: usize) -> Result<(), OutOfMemory>
-        requires within { last ≤ length self.old.sent.items - 1 }
-        requires decided { self.old.decisions.items ≡ decisions_on (moment_of self.old).sent (length self.old.decisions.items) }
+    // Decides the positions up to `last` that aren't decided yet: those that are forced are keys.
+    fn decide(&mut self, last: u64) -> Result<(), OutOfMemory>
+        requires few { self.old.accepted ≤ frame_limit }
+        requires waits { self.old.packets + length self.old.waiting.items ≡ self.old.accepted }
+        requires late { length self.old.decisions.items < last
+            → self.old.packets ≤ length self.old.decisions.items }
         requires more { length self.old.decisions.items ≤ last }
-        ensures decided { OnOk result (self.new.decisions.items ≡ decisions_on (moment_of self.old).sent last) }
-        ensures same { moment_of self.new ≡ moment_of self.old }
+        requires within { last ≤ self.old.accepted - 1 }
+        requires keys { KeepsKeys self.old }
+        ensures decisions { OnOk result (
+            self.new.decisions.items
+            ≡ self.old.decisions.items ++ sent_decisions (moment_of self.old)
+            (length self.old.decisions.items + 1)
+            (last - length self.old.decisions.items)) }
+        ensures same { OnOk result (
+            moment_of self.new
+            ≡ record (moment_of self.old) { decisions = self.new.decisions.items }) }
+        ensures keys { OnOk result (KeepsKeys self.new) }
     {
-        for position in self.decisions.len() + 1..last + 1 {
-            let forced = self.sent[position].forced;
+        for position in self.decisions.len() as u64 + 1..last + 1 {
+            let forced = self.waiting[(position - self.packets) as usize].forced;
             self.decisions.push(Decision {
-                position: position as u64,
+                position,
                 forced,
                 key: forced,
             })?;
+            if forced {
+                self.keys.push(position)?;
+            }
         }
         Ok(())
     }
 
-    /// Has the coder carry out the plan's next command, and answers it.
+    // Has the coder carry out the plan's next command, if it is known, and answers it.
     fn receive<C: FrameCoder<T>>(
         &mut self,
         alloc: Global,
@@ -169,95 +224,116 @@ impl<T: Drop, O: Drop> SessionState<T, O> {
         coder: &mut C,
     ) -> Result<Turn<T, O>, SessionError>
         requires ready { IsReady enc.now (moment_of self.old) }
-        requires decisions { KeepsDecisions enc.now self.old }
-        ensures turn { IfOk result (λ turn. IsTurn enc.now (moment_of self.old) Receive turn) }
-        ensures after { IfOk result (λ turn. moment_of self.new ≡ after_receive (moment_of self.old) turn.log turn.reply) }
-        ensures decisions { OnOk result (KeepsDecisions enc.now self.new) }
-        ensures told { IfOk result (λ turn. Grew (C.told coder.old) (C.told coder.new) (map (told_at (moment_of self.old)) turn.log)) }
-        ensures failed { IfErr result (λ error. Fails (moment_of self.old) (C.told coder.old) (C.told coder.new) (C.faults coder.old) (C.faults coder.new) error) }
+        requires keys { KeepsKeys self.old }
+        ensures turn { IfOk result (λ turn.
+            IsTurn enc.now self.new.decisions.items (moment_of self.old) Receive turn) }
+        ensures after { IfOk result (λ turn.
+            moment_of self.new ≡ after_receive (moment_of self.old) turn.log turn.reply) }
+        ensures same { OnOk result (self.new.decisions.items ≡ self.old.decisions.items) }
+        ensures keys { OnOk result (KeepsKeys self.new) }
+        ensures told { IfOk result (λ turn.
+            Grew (C.told coder.old) (C.told coder.new)
+            (flat_map (told_at (moment_of self.old)) turn.log)) }
+        ensures failed { IfErr result (λ error.
+            Fails enc.now (moment_of self.old) (C.told coder.old) (C.told coder.new)
+            (C.faults coder.old) (C.faults coder.new) error) }
         ensures later { C.faults coder.old ≤ C.faults coder.new }
     {
-        if !self.flushed {
-            return Err(SessionError::Unbuilt);
+        if let Some(reason) = self.held_back(enc) {
+            return Ok(status(alloc, reason));
         }
-        if self.is_complete() {
-            return Ok(Turn {
-                reply: Reply::Status(EncoderStatus::LimitReached),
-                log: LogList::new(alloc),
-            });
-        }
-        let commands = self.plan(alloc, enc)?;
-        let entry = self.code(alloc, coder, commands[self.commands as usize])?;
-        let reply = self.answer(alloc, &commands, &entry)?;
+        let command = self.next_command(alloc, enc)?;
+        let entry = self.code(alloc, coder, command)?;
+        let reply = self.answer(alloc, &entry)?;
         let mut log = LogList::new(alloc);
         log.push(entry)?;
         Ok(Turn { reply, log })
     }
 
-    /// Whether every accepted frame's packet was given.
+    // Why a receive codes nothing.
+    fn held_back(&self, enc: &EncoderConfig) -> Option<EncoderStatus>
+        requires few { self.now.accepted ≤ frame_limit }
+        requires keys { KeepsKeys self.now }
+        ensures { result ≡ held_back enc.now (moment_of self.now) }
+    {
+        if self.flushed && self.is_complete() {
+            return Some(EncoderStatus::LimitReached);
+        }
+        if self.needs_more_data(enc) {
+            return Some(EncoderStatus::NeedMoreData);
+        }
+        None
+    }
+
+    // Whether every accepted frame's packet was given.
     fn is_complete(&self) -> bool
         ensures { result ≡ is_complete (moment_of self.now) }
     {
-        self.packets == self.sent.len() as u64
+        self.packets == self.accepted
     }
 
-    /// The commands of the whole session, by what was accepted and decided so far.
-    fn plan(&self, alloc: Global, enc: &EncoderConfig) -> Result<Vec<Command>, OutOfMemory>
-        requires few { length self.now.sent.items ≤ frame_limit }
-        requires decisions { KeepsDecisions enc.now self.now }
-        ensures { IfOk result (λ commands. commands.items ≡ plan_at enc.now (moment_of self.now)) }
+    // Whether the lookahead wants more frames than are known.
+    fn needs_more_data(&self, enc: &EncoderConfig) -> bool
+        requires few { self.now.accepted ≤ frame_limit }
+        requires keys { KeepsKeys self.now }
+        ensures { result ≡ needs_more_data enc.now (moment_of self.now) }
     {
-        let keys = self.keys(alloc)?;
-        let interval = match enc.max_key_frame_interval {
-            0 => MAX_KEY_FRAME_INTERVAL,
-            interval => interval,
-        };
-        plan(
+        if self.flushed {
+            return false;
+        }
+        let known = InterConfig::new(enc).coded_ahead(
+            enc.key_frame_interval(),
+            self.accepted,
+            &self.keys,
+            self.commands,
+        );
+        known <= enc.speed_settings.rdo_lookahead_frames as u64
+    }
+
+    // The next command of the plan, by what was accepted and decided so far.
+    fn next_command(&self, alloc: Global, enc: &EncoderConfig) -> Result<Command, OutOfMemory>
+        requires few { self.now.accepted ≤ frame_limit }
+        requires keys { KeepsKeys self.now }
+        requires there { self.now.commands < length (plan_at enc.now (moment_of self.now)) }
+        ensures fits { OnOk result (self.now.commands < u64.MAX) }
+        ensures command { IfOk result (λ command.
+            slice_get (plan_at enc.now (moment_of self.now)) self.now.commands ≡ Some command) }
+    {
+        let commands = plan(
             alloc,
             &InterConfig::new(enc),
-            interval,
-            self.sent.len() as u64,
-            &keys,
-        )
+            enc.key_frame_interval(),
+            self.accepted,
+            &self.keys,
+        )?;
+        Ok(commands[self.commands as usize])
     }
 
-    /// The positions that were decided to be keys, with the first frame.
-    fn keys(&self, alloc: Global) -> Result<Vec<u64>, OutOfMemory>
-        ensures { IfOk result (λ keys. keys.items ≡ keys_from (moment_of self.now).sent self.now.decisions.items) }
-    {
-        let mut keys = Vec::new(alloc);
-        if self.sent.is_empty() {
-            return Ok(keys);
-        }
-        keys.push(0)?;
-        for decision in &self.decisions {
-            if decision.key {
-                keys.push(decision.position)?;
-            }
-        }
-        Ok(keys)
-    }
-
-    /// Has the coder carry out a command.
+    // Has the coder carry out a command.
     fn code<C: FrameCoder<T>>(
         &self,
         alloc: Global,
         coder: &mut C,
         command: Command,
     ) -> Result<LogEntry, SessionError>
-        requires { CodesBelow (length self.now.sent.items) command }
+        requires waits { self.now.packets + length self.now.waiting.items ≡ self.now.accepted }
+        requires next { CanCode (moment_of self.now) command }
         ensures command { IfOk result (λ entry. entry.command ≡ command) }
         ensures real { IfOk result (λ entry. entry.trial ≡ false) }
-        ensures told { IfOk result (λ entry. Grew (C.told coder.old) (C.told coder.new) (told_at (moment_of self.now) entry ∷ [])) }
-        ensures failed { IfErr result (λ error. FailsCoding self.now.commands (C.told coder.old) (C.told coder.new) (C.faults coder.old) (C.faults coder.new) error) }
+        ensures told { IfOk result (λ entry.
+            Grew (C.told coder.old) (C.told coder.new) (told_at (moment_of self.now) entry)) }
+        ensures failed { IfErr result (λ error.
+            FailsCoding self.now.commands (C.told coder.old) (C.told coder.new)
+            (C.faults coder.old) (C.faults coder.new) error) }
         ensures later { C.faults coder.old ≤ C.faults coder.new }
     {
         let bytes = match command {
             Command::Code { frame, .. } => {
+                let waiting = &self.waiting[(frame - self.packets) as usize];
                 let job = CodeJob {
                     command,
                     trial: false,
-                    picture: Arc::try_clone(&self.sent[frame as usize].picture)?,
+                    picture: Arc::try_clone(&waiting.picture)?,
                 };
                 match coder.code(alloc, &job) {
                     Ok(coded) => coded.bytes,
@@ -276,7 +352,7 @@ impl<T: Drop, O: Drop> SessionState<T, O> {
         })
     }
 
-    /// The session's error for one of the coder's.
+    // The session's error for one of the coder's.
     fn failed(&self, error: CoderError) -> SessionError
         ensures failed { error ≡ CoderError.Failed → result ≡ CoderFault self.now.commands }
         ensures memory { error ≡ CoderError.OutOfMemory → result ≡ SessionError.OutOfMemory }
@@ -289,86 +365,112 @@ impl<T: Drop, O: Drop> SessionState<T, O> {
         }
     }
 
-    /// Keeps the bytes of a hidden frame, or gives the packet of a shown one.
-    fn answer(
-        &mut self,
-        alloc: Global,
-        commands: &[Command],
-        entry: &LogEntry,
-    ) -> Result<Reply<T, O>, OutOfMemory>
-        requires next { self.old.commands < length commands.now }
-        requires packets { self.old.packets < length self.old.sent.items }
+    // Keeps the bytes and the type of a hidden frame, or gives the packet of a shown one.
+    fn answer(&mut self, alloc: Global, entry: &LogEntry) -> Result<Reply<T, O>, OutOfMemory>
+        requires fits { self.old.commands < u64.MAX }
+        requires few { self.old.accepted ≤ frame_limit }
+        requires waits { self.old.packets + length self.old.waiting.items ≡ self.old.accepted }
+        requires next { CanCode (moment_of self.old) entry.now.command }
         requires real { entry.now.trial ≡ false }
-        ensures reply { IfOk result (λ reply. IsReceived (moment_of self.old) (take (self.old.commands + 1) commands.now) entry.now reply) }
-        ensures after { IfOk result (λ reply. moment_of self.new ≡ after_receive (moment_of self.old) (entry.now ∷ []) reply) }
-        ensures decisions { self.new.decisions.items ≡ self.old.decisions.items }
+        ensures reply { IfOk result (λ reply. IsReceived (moment_of self.old) entry.now reply) }
+        ensures after { IfOk result (λ reply.
+            moment_of self.new ≡ after_receive (moment_of self.old) (entry.now ∷ []) reply) }
+        ensures keys { self.new.keys.items ≡ self.old.keys.items }
     {
-        if !is_showing(&entry.command) {
-            self.pending.extend_from_slice(entry.bytes.as_slice())?;
+        if is_showing(&entry.command) {
+            let packet = self.packet(alloc, entry)?;
+            self.pending.clear();
             self.commands += 1;
-            return Ok(Reply::Status(EncoderStatus::Encoded));
+            self.packets += 1;
+            return Ok(Reply::Packet(packet));
         }
-        let packet = self.packet(alloc, commands, entry)?;
-        self.pending.clear();
+        self.pending.extend_from_slice(entry.bytes.as_slice())?;
+        self.note_kind(entry);
         self.commands += 1;
-        self.packets += 1;
-        Ok(Reply::Packet(packet))
+        Ok(Reply::Status(EncoderStatus::Encoded))
     }
 
-    /// The packet of the next frame, which the command of this entry shows.
-    fn packet(
-        &mut self,
-        alloc: Global,
-        commands: &[Command],
-        entry: &LogEntry,
-    ) -> Result<Packet<T, O>, OutOfMemory>
-        requires next { self.old.commands < length commands.now }
-        requires packets { self.old.packets < length self.old.sent.items }
-        ensures packet { IfOk result (λ packet. IsNextPacket (moment_of self.old) (take (self.old.commands + 1) commands.now) entry.now.bytes packet) }
-        ensures same { moment_of self.new ≡ moment_of self.old }
-        ensures decisions { self.new.decisions.items ≡ self.old.decisions.items }
+    // Keeps the type of a coded frame until its packet is given.
+    fn note_kind(&mut self, entry: &LogEntry)
+        requires waits { self.old.packets + length self.old.waiting.items ≡ self.old.accepted }
+        requires next { CanCode (moment_of self.old) entry.now.command }
+        ensures after { moment_of self.new
+            ≡ record (moment_of self.old)
+            { waiting = noted self.old.packets (moment_of self.old).waiting entry.now } }
+        ensures keys { self.new.keys.items ≡ self.old.keys.items }
+    {
+        if let Command::Code { frame, kind, .. } = entry.command {
+            self.waiting[(frame - self.packets) as usize].kind = Some(kind);
+        }
+    }
+
+    // The packet of the first frame that waits, which the command of this entry shows.
+    fn packet(&mut self, alloc: Global, entry: &LogEntry) -> Result<Packet<T, O>, OutOfMemory>
+        requires waits { self.old.packets + length self.old.waiting.items ≡ self.old.accepted }
+        requires next { CanCode (moment_of self.old) entry.now.command }
+        ensures packet { IfOk result
+            (λ packet. IsNextPacket (moment_of self.old) entry.now packet) }
+        ensures after { OnOk result (
+            moment_of self.new
+            ≡ record (moment_of self.old) { waiting = drop 1 (moment_of self.old).waiting }) }
+        ensures keys { self.new.keys.items ≡ self.old.keys.items }
     {
         let mut bytes = Vec::from_slice(alloc, &DELIMITER)?;
         bytes.extend_from_slice(&self.pending)?;
         bytes.extend_from_slice(entry.bytes.as_slice())?;
-        let frame = &mut self.sent[self.packets as usize];
+        let Some(first) = self.waiting.pop_front() else {
+            unreachable!()
+        };
         Ok(Packet {
             bytes: Bytes::from_vec(bytes),
-            source: Some(Arc::try_clone(&frame.picture)?),
+            frame_type: shown_kind(entry, &first),
+            source: Some(first.picture),
             input_frameno: self.packets,
-            frame_type: coded_kind(&commands[..self.commands as usize + 1], self.packets),
-            opaque: frame.opaque.take(),
+            opaque: first.opaque,
         })
     }
 }
 
-/// A frame as its parameters ask for it.
-fn sent_frame<T, O>(
+// A turn that codes nothing.
+fn status<T, O>(alloc: Global, status: EncoderStatus) -> Turn<T, O>
+    ensures reply { result.reply ≡ Status status }
+    ensures log { result.log ≡ [] }
+{
+    Turn {
+        reply: Reply::Status(status),
+        log: LogList::new(alloc),
+    }
+}
+
+// A frame as its parameters ask for it.
+fn waiting_frame<T, O>(
     picture: Arc<Frame<T>>,
     parameters: Option<FrameParameters<O>>,
-) -> SentFrame<T, O>
-    ensures { accepted_of result ≡ record { picture = picture.value; forced = asks_key parameters } }
+) -> WaitingFrame<T, O>
+    ensures { waiting_of result
+        ≡ record { frame = accepted_of picture.value parameters; coded = None } }
 {
-    match parameters {
-        None => SentFrame {
-            picture,
-            forced: false,
-            opaque: None,
-        },
+    let (forced, opaque) = match parameters {
+        None => (false, None),
         Some(
             FrameParameters {
                 frame_type_override,
                 opaque,
             },
-        ) => SentFrame {
-            picture,
-            forced: matches!(frame_type_override, FrameTypeOverride::Key),
+        ) => (
+            matches!(frame_type_override, FrameTypeOverride::Key),
             opaque,
-        },
+        ),
+    };
+    WaitingFrame {
+        picture,
+        forced,
+        opaque,
+        kind: None,
     }
 }
 
-/// Whether a command shows a frame.
+// Whether a command shows a frame.
 fn is_showing(command: &Command) -> bool
     ensures { result ≡ is_showing command.now }
 {
@@ -378,16 +480,14 @@ fn is_showing(command: &Command) -> bool
     }
 }
 
-/// The type with which a frame was coded, among these commands.
-fn coded_kind(commands: &[Command], number: u64) -> FrameType
-    ensures { result ≡ coded_kind commands.now number }
+// The type of the frame that waits, which an entry shows.
+fn shown_kind<T, O>(entry: &LogEntry, waiting: &WaitingFrame<T, O>) -> FrameType
+    ensures { IsSome (shown_coding entry.now (waiting_of waiting.now))
+        → Some result
+        ≡ option_map (λ coding. coding.kind) (shown_coding entry.now (waiting_of waiting.now)) }
 {
-    for command in commands {
-        if let Command::Code { frame, kind, .. } = command {
-            if *frame == number {
-                return *kind;
-            }
-        }
+    match entry.command {
+        Command::Code { kind, .. } => kind,
+        Command::Show { .. } => waiting.kind.unwrap_or(FrameType::KEY),
     }
-    FrameType::KEY
 }

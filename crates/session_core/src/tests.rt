@@ -5,12 +5,21 @@ ghost use Rattle.session_core.specs.declared.coder.CoderError.TheVariants.{Faile
 
 use super::*;
 use av1_frame::{ChromaSampling, Frame};
-use av1_settings::{Config, EncoderConfig, EncoderStatus, FrameType, InvalidConfig};
-use coding_base::{Bytes, OutOfMemory};
+use av1_settings::{
+    Config, EncoderConfig, EncoderStatus, FrameType, InvalidConfig, LevelRow, LevelTables,
+};
+use coding_base::Bytes;
 use pyramid::Command;
 use std::alloc::Global;
 use std::sync::Arc;
 use std::test::Fail;
+
+// How the replies are told as numbers; a packet is told by its number of bytes.
+const NEED_MORE_DATA: usize = 0;
+
+const ENCODED: usize = 1;
+
+const LIMIT_REACHED: usize = 2;
 
 /// Fails its call number `fails`.
 #[derive(Drop)]
@@ -21,6 +30,14 @@ struct SizedCoder {
 }
 
 impl SizedCoder {
+    fn new(fails: u64) -> SizedCoder {
+        SizedCoder {
+            calls: 0,
+            fails,
+            faults: 0,
+        }
+    }
+
     fn counts(&mut self) -> Result<(), CoderError>
         ensures { HasCause Failed self.old.faults self.new.faults result }
     {
@@ -65,29 +82,67 @@ impl FrameCoder<u16> for SizedCoder {
     }
 }
 
-fn small(width: usize) -> Config {
-    let mut enc = EncoderConfig::default();
-    enc.width = width;
-    enc.height = 80;
-    enc.set_key_frame_interval(0, 5);
-    Config::new().with_encoder_config(enc)
+// Tables that define no level.
+fn no_levels() -> LevelTables {
+    let row = LevelRow {
+        defined: false,
+        max_pic_size: 0,
+        max_h_size: 0,
+        max_v_size: 0,
+        max_display_rate: 0,
+    };
+    LevelTables::new([row; 31])
 }
 
-fn session_calls(
+fn settings(interval: u64, rdo: usize) -> EncoderConfig {
+    let mut enc = EncoderConfig::default();
+    enc.width = 64;
+    enc.height = 80;
+    enc.set_key_frame_interval(0, interval);
+    enc.speed_settings.rdo_lookahead_frames = rdo;
+    enc
+}
+
+fn run(
     alloc: Global,
-    sends: u64,
+    enc: EncoderConfig,
+    coder: &mut SizedCoder,
+    calls: Vec<Call<u16, u64>>,
+) -> Result<Transcript<u16, u64>, SessionError> {
+    let cfg = Config::new().with_encoder_config(enc);
+    run_session(alloc, &cfg, &no_levels(), coder, calls)
+}
+
+// In each round so many sends and then so many receives; then a flush, and receives.
+// The frame `forced` is sent as a key.
+fn calls_of(
+    alloc: Global,
+    forced: u64,
+    rounds: &[(u64, u64)],
     receives: u64,
-) -> Result<Vec<Call<u16, u64>>, OutOfMemory> {
+) -> Result<Vec<Call<u16, u64>>, SessionError> {
     let mut calls = Vec::new(alloc);
     let picture = Arc::new(alloc, Frame::new(alloc, 64, 80, ChromaSampling::Cs420)?)?;
-    for number in 0..sends {
-        calls.push(Call::Send(
-            Arc::try_clone(&picture)?,
-            Some(FrameParameters {
-                frame_type_override: FrameTypeOverride::No,
-                opaque: Some(number),
-            }),
-        ))?;
+    let mut number: u64 = 0;
+    for (sends, between) in rounds {
+        for _ in 0..*sends {
+            let frame_type_override = if number > 0 && number == forced {
+                FrameTypeOverride::Key
+            } else {
+                FrameTypeOverride::No
+            };
+            calls.push(Call::Send(
+                Arc::try_clone(&picture)?,
+                Some(FrameParameters {
+                    frame_type_override,
+                    opaque: Some(number),
+                }),
+            ))?;
+            number = number.saturating_add(1);
+        }
+        for _ in 0..*between {
+            calls.push(Call::Receive)?;
+        }
     }
     calls.push(Call::Flush)?;
     for _ in 0..receives {
@@ -96,45 +151,106 @@ fn session_calls(
     Ok(calls)
 }
 
-#[test]
-fn ten_frames_come_back_in_order(rt: HostRuntime) -> Result<(), Fail> {
-    let alloc = rt.alloc();
-    let mut coder = SizedCoder {
-        calls: 0,
-        fails: 99,
-        faults: 0,
-    };
-    let transcript = run_session(alloc, &small(64), &mut coder, session_calls(alloc, 10, 15)?)?;
+// The replies to the receives; a packet with another frame's value is none.
+fn received(alloc: Global, transcript: &Transcript<u16, u64>) -> Result<Vec<usize>, SessionError> {
     let mut sizes = Vec::new(alloc);
     for turn in transcript.turns.as_slice() {
-        if let Reply::Packet(packet) = &turn.reply {
-            assert_eq!(rt; packet.opaque, Some(packet.input_frameno));
-            sizes.push(packet.bytes.len())?;
+        match &turn.reply {
+            Reply::Packet(packet) => {
+                if packet.opaque == Some(packet.input_frameno) {
+                    sizes.push(packet.bytes.len())?;
+                }
+            }
+            Reply::Status(EncoderStatus::NeedMoreData) => sizes.push(NEED_MORE_DATA)?,
+            Reply::Status(EncoderStatus::Encoded) => sizes.push(ENCODED)?,
+            Reply::Status(EncoderStatus::LimitReached) => sizes.push(LIMIT_REACHED)?,
+            _ => {}
         }
     }
+    Ok(sizes)
+}
+
+fn replies(
+    alloc: Global,
+    enc: EncoderConfig,
+    forced: u64,
+    rounds: &[(u64, u64)],
+    receives: u64,
+) -> Result<Vec<usize>, SessionError> {
+    let mut coder = SizedCoder::new(99);
+    let calls = calls_of(alloc, forced, rounds, receives)?;
+    let transcript = run(alloc, enc, &mut coder, calls)?;
+    received(alloc, &transcript)
+}
+
+#[test]
+fn receives_give_what_is_known(rt: HostRuntime) -> Result<(), Fail> {
+    let alloc = rt.alloc();
+
+    // Nothing sent; ten frames behind the flush.
+    let none = replies(alloc, settings(100, 1), 0, &[], 1)?;
+    assert_eq!(rt; none.as_slice(), [2].as_slice());
+    let late = replies(alloc, settings(5, 1), 0, &[(10, 0)], 15)?;
     assert_eq!(rt;
-        sizes.as_slice(),
-        [102, 62, 5, 22, 5, 102, 62, 5, 22, 5].as_slice()
+        late.as_slice(),
+        [102, 1, 1, 62, 5, 22, 5, 102, 1, 1, 62, 5, 22, 5, 2].as_slice()
     );
-    assert_eq!(rt; coder.calls, 14);
-    assert_eq!(rt; transcript.decisions.len(), 9);
+
+    // A lookahead of 8 coded frames, and one longer than the session.
+    let early = replies(alloc, settings(100, 8), 0, &[(14, 1), (1, 2)], 1)?;
+    assert_eq!(rt; early.as_slice(), [0, 102, 0, 1].as_slice());
+    let long = replies(alloc, settings(100, 100), 0, &[(12, 2)], 3)?;
+    assert_eq!(rt; long.as_slice(), [0, 0, 102, 1, 1].as_slice());
+
+    // A receive behind each send.
+    let keys = replies(alloc, settings(1, 1), 0, &[(1, 1); 14], 11)?;
+    let wanted = [
+        0, 0, 0, 0, 0, 0, 0, 0, 0, 0, 102, 102, 102, 102, 102, 102, 102, 102, 102, 102, 102, 102,
+        102, 102, 2,
+    ];
+    assert_eq!(rt; keys.as_slice(), wanted.as_slice());
+    let pairs = replies(alloc, settings(2, 1), 0, &[(1, 1); 16], 14)?;
+    let wanted = [
+        0, 0, 0, 0, 0, 0, 0, 0, 0, 0, 102, 0, 0, 0, 22, 102, 22, 102, 22, 102, 22, 102, 22, 102,
+        22, 102, 22, 102, 22, 2,
+    ];
+    assert_eq!(rt; pairs.as_slice(), wanted.as_slice());
+    Ok(())
+}
+
+#[test]
+fn a_key_sent_at_the_edge_of_what_is_decided(rt: HostRuntime) -> Result<(), Fail> {
+    let alloc = rt.alloc();
+
+    // Of 11 frames position 4 is decided, and position 5 isn't.
+    let decided = replies(alloc, settings(100, 1), 4, &[(11, 5)], 13)?;
+    assert_eq!(rt;
+        decided.as_slice(),
+        [
+            102, 1, 42, 0, 0, 5, 22, 102, 1, 1, 62, 5, 22, 5, 1, 42, 5, 2
+        ]
+        .as_slice()
+    );
+    let undecided = replies(alloc, settings(100, 1), 5, &[(11, 5)], 12)?;
+    assert_eq!(rt;
+        undecided.as_slice(),
+        [102, 1, 1, 62, 0, 5, 22, 5, 102, 1, 1, 62, 5, 22, 5, 22, 2].as_slice()
+    );
     Ok(())
 }
 
 #[test]
 fn refused_frames_change_nothing(rt: HostRuntime) -> Result<(), Fail> {
     let alloc = rt.alloc();
-    let mut coder = SizedCoder {
-        calls: 0,
-        fails: 99,
-        faults: 0,
-    };
-    let small_frame = Frame::new(alloc, 32, 32, ChromaSampling::Cs420)?;
     let mut calls = Vec::new(alloc);
+    let small_frame = Frame::new(alloc, 32, 32, ChromaSampling::Cs420)?;
     calls.push(Call::Send(Arc::new(alloc, small_frame)?, None))?;
-    calls.append(&mut session_calls(alloc, 1, 2)?)?;
-    calls.append(&mut session_calls(alloc, 1, 1)?)?;
-    let transcript = run_session(alloc, &small(64), &mut coder, calls)?;
+    calls.append(&mut calls_of(alloc, 0, &[(2, 1)], 2)?)?;
+    calls.append(&mut calls_of(alloc, 0, &[(1, 0)], 1)?)?;
+    let mut enc = settings(100, 1);
+    enc.still_picture = true;
+    let mut coder = SizedCoder::new(99);
+    let transcript = run(alloc, enc, &mut coder, calls)?;
     let mut statuses = Vec::new(alloc);
     for turn in transcript.turns.as_slice() {
         if let Reply::Status(status) = &turn.reply {
@@ -143,59 +259,91 @@ fn refused_frames_change_nothing(rt: HostRuntime) -> Result<(), Fail> {
     }
     let wanted = [
         EncoderStatus::FrameSizeMismatch,
+        EncoderStatus::EnoughData,
+        EncoderStatus::NeedMoreData,
         EncoderStatus::LimitReached,
         EncoderStatus::EnoughData,
         EncoderStatus::LimitReached,
     ];
     assert_eq!(rt; statuses.as_slice(), wanted.as_slice());
-    assert_eq!(rt; transcript.turns.len(), 8);
+    assert_eq!(rt; transcript.turns.len(), 10);
+    assert_eq!(rt; transcript.decisions.len(), 0);
     assert_eq!(rt; coder.calls, 1);
     Ok(())
 }
 
 #[test]
-fn a_receive_before_the_flush_is_unbuilt(rt: HostRuntime) -> Result<(), Fail> {
+fn packets_say_what_they_are(rt: HostRuntime) -> Result<(), Fail> {
     let alloc = rt.alloc();
-    let mut coder = SizedCoder {
-        calls: 0,
-        fails: 0,
-        faults: 0,
-    };
-    let mut calls: Vec<Call<u16, u64>> = Vec::new(alloc);
-    calls.push(Call::Receive)?;
-    match run_session(alloc, &small(64), &mut coder, calls) {
-        Err(error) => assert_eq!(rt; error, SessionError::Unbuilt),
-        Ok(_) => assert!(rt; false, "it was answered"),
+    let mut coder = SizedCoder::new(99);
+    let calls = calls_of(alloc, 0, &[(3, 0)], 4)?;
+    let transcript = run(alloc, settings(100, 1), &mut coder, calls)?;
+    let mut texts = String::new(alloc);
+    let mut alike: u64 = 0;
+    for turn in transcript.turns.as_slice() {
+        if let Reply::Packet(packet) = &turn.reply {
+            writeln!(&mut texts, "{packet}")?;
+            for other in transcript.turns.as_slice() {
+                if let Reply::Packet(second) = &other.reply {
+                    if *packet == *second {
+                        alike = alike.saturating_add(1);
+                    }
+                }
+            }
+        }
     }
-    assert_eq!(rt; coder.faults(), 0);
+    assert_eq!(rt;
+        texts.as_str(),
+        "Frame 0 - Key frame - 102 bytes\nFrame 1 - Inter frame - 42 bytes\nFrame 2 - Inter frame - 5 bytes\n"
+    );
+    assert_eq!(rt; alike, 3);
     Ok(())
 }
 
 #[test]
 fn each_refusal_has_its_answer(rt: HostRuntime) -> Result<(), Fail> {
     let alloc = rt.alloc();
-    for (width, fails, wanted) in [
+    for (width, bitrate, fails, wanted, text) in [
         (
             15,
+            0,
             99,
             SessionError::Invalid(InvalidConfig::InvalidWidth(15)),
+            "invalid configuration: invalid width 15 (expected >= 16, <= 65535)",
         ),
-        (64, 3, SessionError::CoderFault { command: 3 }),
+        (
+            64,
+            1,
+            99,
+            SessionError::Unbuilt,
+            "sessions with a bitrate aren't built yet",
+        ),
+        (
+            64,
+            0,
+            3,
+            SessionError::CoderFault { command: 3 },
+            "the coder failed at command 3",
+        ),
     ] {
-        let mut coder = SizedCoder {
-            calls: 0,
-            fails,
-            faults: 0,
-        };
-        match run_session(
-            alloc,
-            &small(width),
-            &mut coder,
-            session_calls(alloc, 10, 15)?,
-        ) {
-            Err(error) => assert_eq!(rt; error, wanted),
+        let mut enc = settings(100, 1);
+        enc.width = width;
+        enc.bitrate = bitrate;
+        let mut coder = SizedCoder::new(fails);
+        match run(alloc, enc, &mut coder, calls_of(alloc, 0, &[(10, 0)], 15)?) {
+            Err(error) => {
+                assert_eq!(rt; error, wanted);
+                assert_eq!(rt; error.to_string(alloc)?.as_str(), text);
+            }
             Ok(_) => assert!(rt; false, "it was answered"),
         }
+        assert_eq!(rt; coder.faults(), (fails == 3) as u64);
     }
+    let memory = SessionError::OutOfMemory.to_string(alloc)?;
+    assert_eq!(rt; memory.as_str(), "out of memory");
+    let failed = CoderError::Failed.to_string(alloc)?;
+    assert_eq!(rt; failed.as_str(), "the coder failed");
+    let coder_memory = CoderError::OutOfMemory.to_string(alloc)?;
+    assert_eq!(rt; coder_memory.as_str(), "out of memory");
     Ok(())
 }

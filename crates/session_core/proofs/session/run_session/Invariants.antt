@@ -1,5 +1,5 @@
 use Rattle.std.proofs.Common.{◌≡◌, ◌≤◌, ◌++◌}
-use Rattle.session_core.proofs.Runs.{Runs}
+use Rattle.session_core.proofs.CallLoop.{Carried}
 use Rattle.session_core.proofs.session.run_session.Given as goal
 
 abbrev pub invariant-loop-call : goal.invariant-loop-call
@@ -8,6 +8,6 @@ invariant-loop-call g l =
     let faults = g.C.FrameCoder.faults in
     (goal.iterator-loop-call g).can_next l.call-iterator
     × (goal.iterator-loop-call g).is_finite l.call-iterator
-    × Runs l.cfg.enc l.yielded l.turns.items l.state (told l.fn.coder) (told l.coder)
+    × Carried l.cfg.enc l.yielded l.turns.items l.state (told l.fn.coder) (told l.coder)
     × (faults l.fn.coder ≤ faults l.coder)
     × (l.yielded ++ l.call-iterator.rest.items ≡ l.fn.calls.items)

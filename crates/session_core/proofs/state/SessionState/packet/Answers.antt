@@ -1,12 +1,25 @@
-use Rattle.std.proofs.Common.{List, ap}
-use Rattle.std.proofs.Math.Seq.{map-set_same}
-use Rattle.session_core.specs.Moments.{Accepted, Moment}
-use Rattle.session_core.specs.States.{accepted_of}
+use Rattle.std.proofs.Common.{◌≡◌, ◌<◌, length, Some, refl, ap, map, ◌∙◌, rules}
+use Rattle.std.specs.List.{slice_get}
+use Rattle.std.specs.Option.{option_map}
+use Rattle.std.proofs.lemmas.Option.{slice_get-map, slice_get_read}
+use Rattle.session_core.specs.States.{moment_of, waiting_of}
+use Rattle.session_core.proofs.StateLemmas.{shown-is-coded}
 use Rattle.session_core.proofs.state.SessionState.packet.Goals as goal
 
-pub returns-clause-same : goal.returns-clause-same
-returns-clause-same g c =
+pub returns-clause-packet : goal.returns-clause-packet
+returns-clause-packet g c =
     let self = c.args.self.now in
-    let again : List (Accepted g.row.T.Denot) → Moment g.row.T.Denot =
-    λ sent. record { sent = sent; flushed = self.flushed; commands = self.commands; packets = self.packets; pending = self.pending.items } in
-    ap again (map-set_same accepted_of self.sent.items self.packets _ c.index_mut-frame.result.now (ap accepted_of c.index_mut-frame.ensures.value))
+    let first = c.in-Some.first in
+    let some : 0 < length self.waiting.items = search rules in
+    let is_first : slice_get (map waiting_of self.waiting.items) 0 ≡ Some (waiting_of first) =
+    slice_get-map waiting_of self.waiting.items 0
+    ∙ ap (option_map waiting_of) (slice_get_read self.waiting.items (length self.waiting.items) 0 first refl some c.in-Some.ensures.lookup) in
+    record {
+      bytes = search rules;
+      number = refl;
+      first = waiting_of first;
+      is_first = is_first;
+      source = refl;
+      opaque = refl;
+      frame_type = c.shown_kind.ensures (shown-is-coded (moment_of self) (waiting_of first) c.args.entry.now is_first c.requires.next);
+    }

@@ -1,23 +1,65 @@
-use Rattle.std.proofs.Common.{◌≡◌, ap, ◌∙◌, map, arith}
-use Rattle.std.proofs.lemmas.List.{map-append, length-map}
-use Rattle.pyramid.specs.Numbers.{keyframe_distance}
-use Rattle.session_core.specs.Moments.{decided_count}
-use Rattle.session_core.specs.States.{moment_of, accepted_of}
-use Rattle.session_core.proofs.StateLemmas.{decisions-with-another, decisions_on-length, decided_count-open, decided_count-within}
+use Rattle.std.proofs.Common.{◌≡◌, ◌+◌, ◌-◌, ◌++◌, ◌∷◌, [], List, length, map, None, false, ap, subst, sym, ◌∙◌, rules, arith}
+use Rattle.std.proofs.lemmas.List.{map-append}
+use Rattle.pyramid.specs.Numbers.{ahead}
+use Rattle.pyramid.specs.Settings.{numbers_of}
+use Rattle.session_core.specs.declared.state.SessionState.{SessionState}
+use Rattle.session_core.specs.Decisions.{decided_count}
+use Rattle.session_core.specs.Moments.{Moment, Waiting}
+use Rattle.session_core.specs.States.{moment_of, waiting_of, sent_decisions}
+use Rattle.session_core.specs.Turns.{accepted_of}
+use Rattle.session_core.proofs.StateLemmas.{Made, made-decides, made-all, made-unasked}
+use Rattle.session_core.proofs.state.SessionState.send.Given as given
 use Rattle.session_core.proofs.state.SessionState.send.Goals as goal
+use Rattle.session_core.proofs.state.SessionState.send.Goals.{then-number-eq0+in_ok-push, else-number-eq0}
 
-pub decide-requires-clause-decided : goal.decide-requires-clause-decided
-decide-requires-clause-decided g c =
-    let self = c.args.self.now in
-    decisions-with-another self.decisions.items _ _ (accepted_of c.sent_frame.result) (decided_count c.args.enc.now (moment_of self)) c.requires.decisions
-    (decided_count-within c.args.enc.now (moment_of self))
-    (ap (map accepted_of) c.in_ok-push.ensures.items ∙ map-append accepted_of self.sent.items _)
+-- the moment with the frame
+abbrev with_frame : (g : given.Over) (c : goal.In_ok-decide g) → Moment g.row.T.Denot g.row.O.Denot
+with_frame g c =
+    let before = moment_of c.args.self.now in
+    record before {
+      accepted = before.accepted + 1;
+      waiting = before.waiting ++ record { frame = accepted_of c.args.frame.value c.args.parameters; coded = None } ∷ [];
+    }
 
-pub decide-requires-clause-more : goal.decide-requires-clause-more
-decide-requires-clause-more g c =
+taken : (g : given.Over) (c : goal.In_ok-decide g) →
+    moment_of (record c.if-number-eq0.self { accepted = c.args.self.now.accepted + 1 }) ≡ with_frame g c
+taken g c =
     let self = c.args.self.now in
-    let count = decisions_on-length self.decisions.items _ (decided_count c.args.enc.now (moment_of self)) c.requires.decisions in
-    let accepted = length-map self.sent.items accepted_of in
-    let now = decided_count-open c.args.enc.now (moment_of self) c.if-self.false in
-    let distance : c.keyframe_lookahead_distance.result ≡ 5 = c.keyframe_lookahead_distance.ensures ∙ ap keyframe_distance c.new.ensures in
-    omega (arith, count, now, accepted, distance, c.in_ok-push.ensures.len)
+    let with_waiting : List (Waiting g.row.T.Denot g.row.O.Denot) → Moment g.row.T.Denot g.row.O.Denot =
+    λ waiting. record (with_frame g c) { waiting = waiting } in
+    let Joined : SessionState g.row.T.Denot g.row.O.Denot → Type 0 =
+    λ state. moment_of (record state { accepted = self.accepted + 1 }) ≡ with_frame g c in
+    let frames = ap (map waiting_of) c.in_ok-push_back.ensures.items ∙ map-append waiting_of self.waiting.items (c.waiting_frame.result ∷ [])
+    ∙ ap (λ one. map waiting_of self.waiting.items ++ one ∷ []) c.waiting_frame.ensures in
+    elim c.if-number-eq0.branch [
+      | then-number-eq0+in_ok-push w ↦ subst Joined (sym w.self-is) (ap with_waiting frames)
+      | else-number-eq0 w ↦ subst Joined (sym w.self-is) (ap with_waiting frames)
+    ]
+
+all : (g : given.Over) (c : goal.In_ok-decide g) →
+    c.saturating_sub.result ≡ decided_count (numbers_of c.args.enc.now) (c.args.self.now.accepted + 1) c.args.self.now.flushed
+all g c =
+    let open_yet : c.args.self.now.flushed ≡ false = search rules in
+    let distance : c.ahead.result ≡ ahead (numbers_of c.args.enc.now) = c.ahead.ensures ∙ ap ahead c.new.ensures in
+    rw open_yet (omega (arith, distance))
+
+made : (g : given.Over) (c : goal.In_ok-decide g) → Made (moment_of c.args.self.now) (with_frame g c) (moment_of c.decide.new.self) c.saturating_sub.result
+made g c =
+    let last = c.saturating_sub.result in
+    let at = taken g c in
+    record {
+      same = c.in_ok-decide.ensures.same
+          ∙ ap (λ (m : Moment g.row.T.Denot g.row.O.Denot). let n : Moment g.row.T.Denot g.row.O.Denot = record m { decisions = c.decide.new.self.decisions.items } in n) at;
+      decisions = c.in_ok-decide.ensures.decisions
+          ∙ ap (λ (m : Moment g.row.T.Denot g.row.O.Denot). m.decisions ++ sent_decisions m (length m.decisions + 1) (last - length m.decisions)) at;
+      more = search rules;
+    }
+
+pub returns-clause-after : goal.returns-clause-after
+returns-clause-after g c = made-all c.args.enc.now _ _ _ _ (made g c) (all g c)
+
+pub returns-clause-decides : goal.returns-clause-decides
+returns-clause-decides g c = made-decides c.args.enc.now _ _ _ _ (made g c) (all g c)
+
+pub returns-clause-unasked : goal.returns-clause-unasked
+returns-clause-unasked g c = made-unasked _ _ _ _ (made g c)

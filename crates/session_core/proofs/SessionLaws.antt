@@ -1,0 +1,70 @@
+-- What follows from 'each turn is as the reply table says', for the calls of a session and its turns.
+use Rattle.std.proofs.Common.{◌≡◌, ℕ, ◌≤◌, List, [], ◌∷◌, ◌++◌, length, take}
+use Rattle.std.specs.List.{flat_map}
+use Rattle.av1_settings.specs.declared.encoder.EncoderConfig.{EncoderConfig}
+use Rattle.pyramid.specs.declared.command.Command.{Command}
+use Rattle.session_core.specs.declared.call.Call.{Call}
+use Rattle.session_core.specs.declared.transcript.Decision.{Decision}
+use Rattle.session_core.specs.declared.transcript.LogEntry.{LogEntry}
+use Rattle.session_core.specs.declared.transcript.Turn.{Turn}
+use Rattle.session_core.specs.Answers.{Codes}
+use Rattle.session_core.specs.Decisions.{AreUnasked}
+use Rattle.session_core.specs.Moments.{opening, plan_at}
+use Rattle.session_core.specs.Sessions.{AreTurns, moment_after, accepted_in, entries_of, commands_of, AreKeyDecisions, IsTaken, Headline}
+use Rattle.session_core.specs.States.{IsReady, told_at}
+use Rattle.session_core.specs.Told.{Grew, Heard}
+use Rattle.session_core.specs.Turns.{BeginTrials}
+pub use Rattle.session_core.proofs.Taken.{told_turns}
+use Rattle.session_core.proofs.HeadlineLaw.{headline-after, decided-keys}
+use Rattle.session_core.proofs.Lookahead.{ready-after}
+use Rattle.session_core.proofs.RunHistory.{commands-first, commands-counted}
+use Rattle.session_core.proofs.Taken as Taken
+use Rattle.session_core.proofs.Widen as Widen
+
+-- one more call and its turn
+pub told_turns-push : {T O : Type 0} (enc : EncoderConfig) (decisions : List Decision) (calls : List (Call T O)) (turns : List (Turn T O)) (call : Call T O) (turn : Turn T O) →
+    length turns ≡ length calls →
+    told_turns enc decisions opening (calls ++ call ∷ []) (turns ++ turn ∷ [])
+    ≡ told_turns enc decisions opening calls turns ++ flat_map (told_at (moment_after enc decisions calls turns)) turn.log
+told_turns-push enc decisions calls turns call turn same = Taken.told_turns-push enc decisions opening calls turns call turn same
+
+module _ {T O : Type 0} (enc : EncoderConfig) (decisions : List Decision) (calls : List (Call T O)) (turns : List (Turn T O)) where
+  -- the next call finds what it needs
+  pub ready-of : 1 ≤ enc.speed_settings.rdo_lookahead_frames → AreTurns enc decisions calls turns → IsReady enc (moment_after enc decisions calls turns)
+  ready-of looks are = ready-after enc decisions calls turns looks are
+
+  -- the commands coded are the plan's first ones
+  pub on-plan : AreTurns enc decisions calls turns →
+      (commands_of turns ≡ take (moment_after enc decisions calls turns).commands (plan_at enc (moment_after enc decisions calls turns)))
+      × (length (commands_of turns) ≡ (moment_after enc decisions calls turns).commands)
+  on-plan are = (commands-first enc decisions calls turns are, commands-counted enc decisions calls turns are)
+
+  pub headline-of : AreTurns enc decisions calls turns → Headline enc decisions calls turns
+  headline-of are = headline-after enc decisions calls turns are
+
+  -- the decisions made by the end are of their positions, with their frames' marks
+  pub keys-of : AreTurns enc decisions calls turns → decisions ≡ (moment_after enc decisions calls turns).decisions → AreUnasked decisions →
+      AreKeyDecisions (accepted_in calls turns) decisions
+  keys-of are all unasked = decided-keys enc decisions calls turns are all unasked
+
+  -- told turn by turn is what the coder took
+  pub taken-all : (before after : Heard T) → AreTurns enc decisions calls turns → Grew before.coder after.coder (told_turns enc decisions opening calls turns) →
+      IsTaken (accepted_in calls turns) (entries_of turns) before after
+  taken-all before after are grew = Taken.taken-all enc decisions calls turns before after are grew
+
+  -- also with what was tried for the next command
+  pub taken-of : (before after : Heard T) (number : ℕ) (command : Command) (trials : List LogEntry) → AreTurns enc decisions calls turns →
+      Codes enc (moment_after enc decisions calls turns) number command → BeginTrials enc (moment_after enc decisions calls turns) command trials →
+      Grew before.coder after.coder (told_turns enc decisions opening calls turns ++ flat_map (told_at (moment_after enc decisions calls turns)) trials) →
+      IsTaken (accepted_in calls turns) (entries_of turns ++ trials) before after
+  taken-of before after number command trials are due tried grew =
+      Taken.taken-of enc decisions calls turns before after number command trials are due tried grew
+
+  -- decisions at the end of the list that aren't made yet change nothing
+  pub widen : (more : List Decision) → AreTurns enc decisions calls turns →
+      AreTurns enc (decisions ++ more) calls turns × (moment_after enc (decisions ++ more) calls turns ≡ moment_after enc decisions calls turns)
+  widen more are = Widen.widen enc decisions more calls turns are
+
+  pub widen-told : (more : List Decision) → AreTurns enc decisions calls turns →
+      told_turns enc (decisions ++ more) opening calls turns ≡ told_turns enc decisions opening calls turns
+  widen-told more are = Widen.widen-told enc decisions more calls turns are
