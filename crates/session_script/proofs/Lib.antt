@@ -1,11 +1,3 @@
 pub mod Answered
-pub mod CallLemmas
+pub mod CarriedLemmas
 pub mod CommandWords
-pub mod Cuts
-pub mod Digits
-pub mod LineWords
-pub mod Pieces
-pub mod ScriptedBytes
-pub mod Scripts
-pub mod Slots
-pub mod Written

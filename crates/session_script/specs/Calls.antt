@@ -1,23 +1,24 @@
--- The calls that a script asks for.
-use Rattle.std.specs.Prelude.{ℕ, ◌*◌, Bool, true, false, replicate}
+-- The calls that a script asks for, by value.
+use Rattle.std.specs.Prelude.{ℕ, ◌*◌, Bool, true, false, Option, None, replicate}
 use Rattle.av1_frame.specs.declared.frame.Plane.{Plane}
 use Rattle.av1_frame.specs.declared.frame.Frame.{Frame}
 use Rattle.av1_frame.specs.Sizes.{chroma_size}
 use Rattle.av1_settings.specs.declared.encoder.EncoderConfig.{EncoderConfig}
+use Rattle.script_lines.specs.declared.line.Action.{Action}
+use Rattle.script_lines.specs.declared.line.Action.TheVariants.{Send as SendAction, SendKey, Flush as FlushAction, Receive as ReceiveAction}
 use Rattle.session_core.specs.declared.call.Call.{Call}
 use Rattle.session_core.specs.declared.call.Call.TheVariants.{Send, Flush, Receive}
-use Rattle.session_core.specs.Turns.{asks_key}
-use Rattle.session_script.specs.declared.script.lines.Action.{Action}
-use Rattle.session_script.specs.declared.script.lines.Action.TheVariants.{Send as SendAction, SendKey, Flush as FlushAction, Receive as ReceiveAction}
+use Rattle.session_core.specs.Turns.{asks_key, opaque_of}
 
--- what a call asks for, by value: a frame with this picture, sent as a key frame or not; a flush; a receive
+-- what a call asks for: to send a frame with this picture, as a key frame or not, with this opaque value; to flush; to
+-- receive
 pub data Asked : Type 0 where
-  Sends : Frame ℕ → Bool → Asked
+  Sends : Frame ℕ → Bool → Option ℕ → Asked
   Flushes : Asked
   Receives : Asked
 
 abbrev pub asked_by : Call ℕ ℕ → Asked
-asked_by (Send frame parameters) = Sends frame.value (asks_key parameters)
+asked_by (Send frame parameters) = Sends frame.value (asks_key parameters) (opaque_of parameters)
 asked_by Flush = Flushes
 asked_by Receive = Receives
 
@@ -33,8 +34,9 @@ plain_picture enc = record {
   v = plain_plane (chroma_size enc.width enc.height enc.chroma_sampling);
 }
 
+-- what a line of a script asks for; no value is sent with a plain frame
 abbrev pub asked_for : Frame ℕ → Action → Asked
-asked_for picture SendAction = Sends picture false
-asked_for picture SendKey = Sends picture true
+asked_for picture SendAction = Sends picture false None
+asked_for picture SendKey = Sends picture true None
 asked_for picture FlushAction = Flushes
 asked_for picture ReceiveAction = Receives

@@ -1,11 +1,5 @@
-pub mod Adapters
 pub mod Calls
-pub mod CoderLog
-pub mod Grammar
-pub mod Lines
-pub mod Memory
-pub mod Report
-pub mod Run
-pub mod Scripted
-pub mod Stops
-pub mod Streams
+pub mod Carried
+pub mod Outcomes
+pub mod Program
+pub mod Words

@@ -1,322 +1,34 @@
-use crate::run::{Report, run_script};
-use crate::sink::{MemSink, Sink};
-use crate::source::{Failed, MemSource, Source};
-use crate::standard::{Reading, Writing};
-use crate::{asked, print};
+mod low_latency;
+mod receives_anywhere;
+mod receives_behind_the_flush;
+
+use crate::help::HELP_LINES;
+use crate::program::run_program;
+use crate::run::{run_script, run_with_coder};
+use crate::{MemSink, MemSource, Report, ScriptedCoder};
+use av1_frame::{ChromaSampling, Frame};
+use av1_settings::{Config, EncoderConfig};
 use coding_base::{OutOfMemory, Sequence};
-use std::alloc::{AllocError, Global};
+use receives_behind_the_flush::{ROWS, Row};
+use scripted::no_levels;
+use session_core::{Call, Reply, run_session};
+use session_text::report_text;
+use slot_replay::replay;
+use std::alloc::Global;
+use std::sync::Arc;
 use std::test::Fail;
 
-struct Row {
-    name: &'static str,
-    script: &'static str,
-    status: u8,
-    text: &'static str,
-}
-
-const ROWS: [Row; 13] = [
-    Row {
-        name: "empty_flush",
-        script: "flush\nreceive\n",
-        status: 0,
-        text: "flushed\nlimit-reached\n",
-    },
-    Row {
-        name: "ten_frames_two_gops",
-        script: "size 64 80\nkeyint 0 5\nrdo 10\nsend 10\nflush\nreceive 15\n",
-        status: 0,
-        text: "sent 0\n\
-            sent 1\n\
-            sent 2\n\
-            sent 3\n\
-            sent 4\n\
-            sent 5\n\
-            sent 6\n\
-            sent 7\n\
-            sent 8\n\
-            sent 9\n\
-            flushed\n\
-            code 0 key refs - refresh 255 shown\n\
-            Frame 0 - Key frame - 102 bytes\n\
-            code 4 inter refs 0 3 refresh 2 hidden\n\
-            encoded\n\
-            code 2 inter refs 0 1 4 refresh 16 hidden\n\
-            encoded\n\
-            code 1 inter refs 0 4 5 refresh 32 shown\n\
-            Frame 1 - Inter frame - 62 bytes\n\
-            show 4\n\
-            Frame 2 - Inter frame - 5 bytes\n\
-            code 3 inter refs 4 1 5 refresh 32 shown\n\
-            Frame 3 - Inter frame - 22 bytes\n\
-            show 1\n\
-            Frame 4 - Inter frame - 5 bytes\n\
-            code 5 key refs - refresh 255 shown\n\
-            Frame 5 - Key frame - 102 bytes\n\
-            code 9 inter refs 0 3 refresh 2 hidden\n\
-            encoded\n\
-            code 7 inter refs 0 1 4 refresh 16 hidden\n\
-            encoded\n\
-            code 6 inter refs 0 4 5 refresh 32 shown\n\
-            Frame 6 - Inter frame - 62 bytes\n\
-            show 4\n\
-            Frame 7 - Inter frame - 5 bytes\n\
-            code 8 inter refs 4 1 5 refresh 32 shown\n\
-            Frame 8 - Inter frame - 22 bytes\n\
-            show 1\n\
-            Frame 9 - Inter frame - 5 bytes\n\
-            limit-reached\n\
-            ",
-    },
-    Row {
-        name: "ten_frames_no_final_line_feed",
-        script: "size 64 80\nkeyint 0 5\nrdo 10\nsend 10\nflush\nreceive 15",
-        status: 0,
-        text: "sent 0\n\
-            sent 1\n\
-            sent 2\n\
-            sent 3\n\
-            sent 4\n\
-            sent 5\n\
-            sent 6\n\
-            sent 7\n\
-            sent 8\n\
-            sent 9\n\
-            flushed\n\
-            code 0 key refs - refresh 255 shown\n\
-            Frame 0 - Key frame - 102 bytes\n\
-            code 4 inter refs 0 3 refresh 2 hidden\n\
-            encoded\n\
-            code 2 inter refs 0 1 4 refresh 16 hidden\n\
-            encoded\n\
-            code 1 inter refs 0 4 5 refresh 32 shown\n\
-            Frame 1 - Inter frame - 62 bytes\n\
-            show 4\n\
-            Frame 2 - Inter frame - 5 bytes\n\
-            code 3 inter refs 4 1 5 refresh 32 shown\n\
-            Frame 3 - Inter frame - 22 bytes\n\
-            show 1\n\
-            Frame 4 - Inter frame - 5 bytes\n\
-            code 5 key refs - refresh 255 shown\n\
-            Frame 5 - Key frame - 102 bytes\n\
-            code 9 inter refs 0 3 refresh 2 hidden\n\
-            encoded\n\
-            code 7 inter refs 0 1 4 refresh 16 hidden\n\
-            encoded\n\
-            code 6 inter refs 0 4 5 refresh 32 shown\n\
-            Frame 6 - Inter frame - 62 bytes\n\
-            show 4\n\
-            Frame 7 - Inter frame - 5 bytes\n\
-            code 8 inter refs 4 1 5 refresh 32 shown\n\
-            Frame 8 - Inter frame - 22 bytes\n\
-            show 1\n\
-            Frame 9 - Inter frame - 5 bytes\n\
-            limit-reached\n\
-            ",
-    },
-    Row {
-        name: "seven_frames_cut_group",
-        script: "size 64 80\nkeyint 0 5\nrdo 10\nsend 7\nflush\nreceive 15\n",
-        status: 0,
-        text: "sent 0\n\
-            sent 1\n\
-            sent 2\n\
-            sent 3\n\
-            sent 4\n\
-            sent 5\n\
-            sent 6\n\
-            flushed\n\
-            code 0 key refs - refresh 255 shown\n\
-            Frame 0 - Key frame - 102 bytes\n\
-            code 4 inter refs 0 3 refresh 2 hidden\n\
-            encoded\n\
-            code 2 inter refs 0 1 4 refresh 16 hidden\n\
-            encoded\n\
-            code 1 inter refs 0 4 5 refresh 32 shown\n\
-            Frame 1 - Inter frame - 62 bytes\n\
-            show 4\n\
-            Frame 2 - Inter frame - 5 bytes\n\
-            code 3 inter refs 4 1 5 refresh 32 shown\n\
-            Frame 3 - Inter frame - 22 bytes\n\
-            show 1\n\
-            Frame 4 - Inter frame - 5 bytes\n\
-            code 5 key refs - refresh 255 shown\n\
-            Frame 5 - Key frame - 102 bytes\n\
-            code 6 inter refs 0 4 5 refresh 32 shown\n\
-            Frame 6 - Inter frame - 22 bytes\n\
-            limit-reached\n\
-            limit-reached\n\
-            limit-reached\n\
-            limit-reached\n\
-            limit-reached\n\
-            limit-reached\n\
-            ",
-    },
-    Row {
-        name: "forced_key_at_one",
-        script: "keyint 0 5\nsend\nsendkey\nsend 3\nflush\nreceive 7\n",
-        status: 0,
-        text: "sent 0\n\
-            sent 1\n\
-            sent 2\n\
-            sent 3\n\
-            sent 4\n\
-            flushed\n\
-            code 0 key refs - refresh 255 shown\n\
-            Frame 0 - Key frame - 102 bytes\n\
-            code 1 key refs - refresh 255 shown\n\
-            Frame 1 - Key frame - 102 bytes\n\
-            code 3 inter refs 0 1 4 refresh 16 hidden\n\
-            encoded\n\
-            code 2 inter refs 0 4 5 refresh 32 shown\n\
-            Frame 2 - Inter frame - 42 bytes\n\
-            show 4\n\
-            Frame 3 - Inter frame - 5 bytes\n\
-            code 4 inter refs 4 1 5 refresh 32 shown\n\
-            Frame 4 - Inter frame - 22 bytes\n\
-            limit-reached\n\
-            ",
-    },
-    Row {
-        name: "forced_key_at_two",
-        script: "keyint 0 5\nsend 2\nsendkey\nsend 2\nflush\nreceive 7\n",
-        status: 0,
-        text: "sent 0\n\
-            sent 1\n\
-            sent 2\n\
-            sent 3\n\
-            sent 4\n\
-            flushed\n\
-            code 0 key refs - refresh 255 shown\n\
-            Frame 0 - Key frame - 102 bytes\n\
-            code 1 inter refs 0 4 5 refresh 32 shown\n\
-            Frame 1 - Inter frame - 22 bytes\n\
-            code 2 key refs - refresh 255 shown\n\
-            Frame 2 - Key frame - 102 bytes\n\
-            code 4 inter refs 0 1 4 refresh 16 hidden\n\
-            encoded\n\
-            code 3 inter refs 0 4 5 refresh 32 shown\n\
-            Frame 3 - Inter frame - 42 bytes\n\
-            show 4\n\
-            Frame 4 - Inter frame - 5 bytes\n\
-            limit-reached\n\
-            ",
-    },
-    Row {
-        name: "key_interval_one",
-        script: "keyint 0 1\nsend 3\nflush\nreceive 4\n",
-        status: 0,
-        text: "sent 0\n\
-            sent 1\n\
-            sent 2\n\
-            flushed\n\
-            code 0 key refs - refresh 255 shown\n\
-            Frame 0 - Key frame - 102 bytes\n\
-            code 1 key refs - refresh 255 shown\n\
-            Frame 1 - Key frame - 102 bytes\n\
-            code 2 key refs - refresh 255 shown\n\
-            Frame 2 - Key frame - 102 bytes\n\
-            limit-reached\n\
-            ",
-    },
-    Row {
-        name: "three_gops_with_forced_key",
-        script: "size 64 80\n\
-            keyint 0 5\n\
-            rdo 10\n\
-            send 2\n\
-            sendkey\n\
-            send 7\n\
-            flush\n\
-            receive 16\n\
-            ",
-        status: 0,
-        text: "sent 0\n\
-            sent 1\n\
-            sent 2\n\
-            sent 3\n\
-            sent 4\n\
-            sent 5\n\
-            sent 6\n\
-            sent 7\n\
-            sent 8\n\
-            sent 9\n\
-            flushed\n\
-            code 0 key refs - refresh 255 shown\n\
-            Frame 0 - Key frame - 102 bytes\n\
-            code 1 inter refs 0 4 5 refresh 32 shown\n\
-            Frame 1 - Inter frame - 22 bytes\n\
-            code 2 key refs - refresh 255 shown\n\
-            Frame 2 - Key frame - 102 bytes\n\
-            code 6 inter refs 0 3 refresh 2 hidden\n\
-            encoded\n\
-            code 4 inter refs 0 1 4 refresh 16 hidden\n\
-            encoded\n\
-            code 3 inter refs 0 4 5 refresh 32 shown\n\
-            Frame 3 - Inter frame - 62 bytes\n\
-            show 4\n\
-            Frame 4 - Inter frame - 5 bytes\n\
-            code 5 inter refs 4 1 5 refresh 32 shown\n\
-            Frame 5 - Inter frame - 22 bytes\n\
-            show 1\n\
-            Frame 6 - Inter frame - 5 bytes\n\
-            code 7 key refs - refresh 255 shown\n\
-            Frame 7 - Key frame - 102 bytes\n\
-            code 9 inter refs 0 1 4 refresh 16 hidden\n\
-            encoded\n\
-            code 8 inter refs 0 4 5 refresh 32 shown\n\
-            Frame 8 - Inter frame - 42 bytes\n\
-            show 4\n\
-            Frame 9 - Inter frame - 5 bytes\n\
-            limit-reached\n\
-            limit-reached\n\
-            limit-reached\n\
-            ",
-    },
-    Row {
-        name: "empty_script",
-        script: "",
-        status: 0,
-        text: "",
-    },
-    Row {
-        name: "unknown_line",
-        script: "x\n",
-        status: 3,
-        text: "script line 1\n",
-    },
-    Row {
-        name: "unknown_line_no_line_feed",
-        script: "x",
-        status: 3,
-        text: "script line 1\n",
-    },
-    Row {
-        name: "one_call_too_many",
-        script: "send 99999\nflush\nflush\n",
-        status: 3,
-        text: "script line 3\n",
-    },
-    Row {
-        name: "width_refused",
-        script: "size 15 15\nflush\n",
-        status: 4,
-        text: "invalid config 1\n",
-    },
-];
-
-// What is run: the word, the script, the numbers of the reads and writes that fail, and the room for the report.
+// What is run: the script, the numbers of the reads and writes that fail, and the room for the report.
 #[derive(Drop)]
 struct Case<'a> {
-    word: &'a str,
     script: &'a [u8],
     reads: &'a [u64],
     writes: &'a [u64],
     room: usize,
 }
 
-fn plain_run(script: &[u8]) -> Case<'_> {
+fn plain(script: &[u8]) -> Case<'_> {
     Case {
-        word: "run",
         script,
         reads: &[],
         writes: &[],
@@ -324,94 +36,161 @@ fn plain_run(script: &[u8]) -> Case<'_> {
     }
 }
 
-fn run(alloc: Global, case: &Case<'_>) -> Result<(Report, MemSink), OutOfMemory> {
+impl Case<'_> {
+    fn source(&self, alloc: Global) -> Result<MemSource, OutOfMemory> {
+        let bytes = Sequence::from_slice(alloc, self.script)?;
+        Ok(MemSource::new(bytes, Vec::from_slice(alloc, self.reads)?))
+    }
+
+    fn sink(&self, alloc: Global) -> Result<MemSink, OutOfMemory> {
+        MemSink::new(alloc, self.room, Vec::from_slice(alloc, self.writes)?)
+    }
+}
+
+fn words(alloc: Global, texts: &[&str]) -> Result<Vec<String>, OutOfMemory> {
     let mut words = Vec::new(alloc);
-    words.push(String::from_str(alloc, case.word)?)?;
-    let bytes = Sequence::from_slice(alloc, case.script)?;
-    let mut source = MemSource::new(bytes, Vec::from_slice(alloc, case.reads)?);
-    let mut sink = MemSink::new(alloc, case.room, Vec::from_slice(alloc, case.writes)?)?;
-    let report = run_script(alloc, &words, &mut source, &mut sink);
+    for text in texts {
+        words.push(String::from_str(alloc, text)?)?;
+    }
+    Ok(words)
+}
+
+// The report of a run.
+fn run(alloc: Global, case: &Case<'_>) -> Result<(Report, MemSink), OutOfMemory> {
+    let mut sink = case.sink(alloc)?;
+    let words = words(alloc, &["run"])?;
+    let report = run_script(alloc, &words, &mut case.source(alloc)?, &mut sink);
     Ok((report, sink))
+}
+
+// The status of the program for these words.
+fn status(alloc: Global, texts: &[&str], case: &Case<'_>) -> Result<(u8, MemSink), OutOfMemory> {
+    let mut sink = case.sink(alloc)?;
+    let words = words(alloc, texts)?;
+    let status = run_program(alloc, &words, &mut case.source(alloc)?, &mut sink);
+    Ok((status, sink))
+}
+
+fn rows() -> [&'static [Row]; 3] {
+    [&ROWS, &receives_anywhere::ROWS, &low_latency::ROWS]
 }
 
 #[test]
 fn rows_have_their_reports(rt: HostRuntime) -> Result<(), Fail> {
-    for row in &ROWS {
+    for row in rows().iter().flat_map(|rows| rows.iter()) {
         let name = row.name;
-        let (report, sink) = run(rt.alloc(), &plain_run(row.script.as_bytes()))?;
+        let (report, sink) = run(rt.alloc(), &plain(row.script.as_bytes()))?;
         assert_eq!(rt; report.status, row.status, "{name}");
         assert_eq!(rt; sink.bytes(), row.text.as_bytes(), "{name}");
         assert_eq!(rt; report.transcript.is_some(), row.status == 0, "{name}");
+        assert_eq!(rt; report.line.is_some(), row.status == 3, "{name}");
+        assert_eq!(rt; report.config.is_some(), row.status == 4, "{name}");
+        assert_eq!(rt; report.command, None, "{name}");
+        let (status, again) = status(rt.alloc(), &["run"], &plain(row.script.as_bytes()))?;
+        assert_eq!(rt; status, row.status, "{name}");
+        assert_eq!(rt; again.bytes(), row.text.as_bytes(), "{name}");
     }
     Ok(())
 }
 
-// A script, and the first of its lines that is no script line; 0 for none.
-const LINES: [(&[u8], u64); 30] = [
-    (b"send  2\n", 1),
-    (b"send\t2\n", 1),
-    (b"send\r\n", 1),
-    (b" send\n", 1),
-    (b"send \n", 1),
-    (b" \n", 1),
-    (b" # no comment\n", 1),
-    (b"# a comment \xff\t\r\n\nsend\n", 0),
-    (b"\xff\n", 1),
-    (b"send +2\n", 1),
-    (b"send -2\n", 1),
-    (b"send 0\n", 1),
-    (b"send 00000000000000000002\n", 0),
-    (b"send 000000000000000000002\n", 1),
-    (b"keyint 0 18446744073709551615\n", 0),
-    (b"keyint 0 18446744073709551616\n", 1),
-    (b"rdo 99999999999999999999\n", 1),
-    (b"rdo 1\nrdo 1\n", 2),
-    (b"size 64 80\n\nsize 64 80\n", 3),
-    (b"send\nrdo 1\n", 2),
-    (b"flush\nkeyint 1 2\n", 2),
-    (b"send\nreceive\nflush\n", 2),
-    (b"flush\nreceive 2\nsend\n", 0),
-    (b"send 100000\n", 0),
-    (b"send 100001\n", 1),
-    (b"send 100000\n# full\nflush\n", 3),
-    (b"send 18446744073709551615\n", 1),
-    (b"size 64\n", 1),
-    (b"size 64 80 1\n", 1),
-    (b"gop 2\n", 1),
-];
-
 #[test]
-fn first_bad_line_is_named(rt: HostRuntime) -> Result<(), Fail> {
-    for (script, bad) in LINES {
-        let mut checked = plain_run(script);
-        checked.room = 1 << 21;
-        let (report, sink) = run(rt.alloc(), &checked)?;
-        if bad == 0 {
-            let wanted = if script.starts_with(b"keyint") { 4 } else { 0 };
-            assert_eq!(rt; report.status, wanted, "{script:?}");
-            assert_eq!(rt; report.line, None, "{script:?}");
-        } else {
-            let text = format!(in rt.alloc(); "script line {bad}\n")?;
-            assert_eq!(rt; report.status, 3, "{script:?}");
-            assert_eq!(rt; report.line, Some(bad), "{script:?}");
-            assert_eq!(rt; sink.bytes(), text.as_bytes(), "{script:?}");
+fn commands_replay_as_the_packets(rt: HostRuntime) -> Result<(), Fail> {
+    let alloc = rt.alloc();
+    for row in rows().iter().flat_map(|rows| rows.iter()) {
+        let (report, _) = run(alloc, &plain(row.script.as_bytes()))?;
+        let Some(transcript) = &report.transcript else {
+            continue;
+        };
+        let mut commands = Vec::new(alloc);
+        let mut packets = Vec::new(alloc);
+        for turn in transcript.turns.as_slice() {
+            for entry in turn.log.as_slice() {
+                commands.push(entry.command)?;
+            }
+            if let Reply::Packet(packet) = &turn.reply {
+                packets.push(packet.input_frameno)?;
+            }
         }
+        let name = row.name;
+        assert_eq!(rt;
+            replay(alloc, &commands)?.as_slice(),
+            packets.as_slice(),
+            "{name}"
+        );
     }
     Ok(())
 }
 
+// Preset 7 has one reference a frame, where frames aren't reordered.
 #[test]
-fn words_are_one_word(rt: HostRuntime) -> Result<(), Fail> {
-    let mut source = MemSource::new(Sequence::new(rt.alloc()), Vec::new(rt.alloc()));
-    let mut sink = MemSink::new(rt.alloc(), 1, Vec::new(rt.alloc()))?;
-    let report = run_script(rt.alloc(), &[], &mut source, &mut sink);
-    assert_eq!(rt; report.status, 2);
-    for word in ["walk", "", "Run", "run ", "gen"] {
-        let mut checked = plain_run(b"flush\n");
-        checked.word = word;
-        let (report, sink) = run(rt.alloc(), &checked)?;
-        assert_eq!(rt; report.status, 2, "{word}");
-        assert!(rt; sink.bytes().is_empty(), "{word}");
+fn a_fast_preset_names_one_frame_at_low_latency(rt: HostRuntime) -> Result<(), Fail> {
+    let alloc = rt.alloc();
+    let mut enc = EncoderConfig::with_speed_preset(7);
+    enc.width = 16;
+    enc.height = 16;
+    enc.low_latency = true;
+    let cfg = Config::new().with_encoder_config(enc);
+    let frame: Frame<u8> = Frame::new(alloc, 16, 16, ChromaSampling::Cs420)?;
+    let picture = Arc::new(alloc, frame)?;
+    let mut calls: Vec<Call<u8, u64>> = Vec::new(alloc);
+    for _ in 0..3 {
+        calls.push(Call::Send(picture.clone()?, None))?;
+    }
+    calls.push(Call::Flush)?;
+    for _ in 0..3 {
+        calls.push(Call::Receive)?;
+    }
+    let mut coder = ScriptedCoder::new(alloc);
+    let transcript = run_session(alloc, &cfg, &no_levels(), &mut coder, calls)?;
+    let text = report_text(alloc, transcript.turns.as_slice())?;
+    let wanted = "sent 0\nsent 1\nsent 2\nflushed\n\
+        code 0 key refs - refresh 255 shown\n\
+        Frame 0 - Key frame - 102 bytes\n\
+        code 1 inter refs 0 refresh 2 shown\n\
+        Frame 1 - Inter frame - 22 bytes\n\
+        code 2 inter refs 1 refresh 4 shown\n\
+        Frame 2 - Inter frame - 22 bytes\n";
+    assert_eq!(rt; text.as_str(), wanted);
+    Ok(())
+}
+
+#[test]
+fn a_lent_coder_codes_the_same(rt: HostRuntime) -> Result<(), Fail> {
+    let alloc = rt.alloc();
+    let case = plain(b"send\nflush\nreceive\n");
+    let mut coder = ScriptedCoder::new(alloc);
+    let mut sink = case.sink(alloc)?;
+    let words = words(alloc, &["run"])?;
+    let outcome = run_with_coder(
+        alloc,
+        &words,
+        &mut case.source(alloc)?,
+        &mut sink,
+        &mut coder,
+    );
+    assert_eq!(rt; outcome.status(), 0);
+    let text =
+        "sent 0\nflushed\ncode 0 key refs - refresh 255 shown\nFrame 0 - Key frame - 102 bytes\n";
+    assert_eq!(rt; sink.bytes(), text.as_bytes());
+    Ok(())
+}
+
+#[test]
+fn other_words_do_nothing(rt: HostRuntime) -> Result<(), Fail> {
+    let cases: [&[&str]; 8] = [
+        &[],
+        &["walk"],
+        &[""],
+        &["Run"],
+        &["run "],
+        &["run", "x"],
+        &["--help", "x"],
+        &["--Version"],
+    ];
+    for words in cases {
+        let (status, sink) = status(rt.alloc(), words, &plain(b"flush\n"))?;
+        assert_eq!(rt; status, 2, "{words:?}");
+        assert!(rt; sink.bytes().is_empty(), "{words:?}");
     }
     Ok(())
 }
@@ -420,22 +199,22 @@ fn words_are_one_word(rt: HostRuntime) -> Result<(), Fail> {
 fn faults_of_source_and_sink_end_a_run(rt: HostRuntime) -> Result<(), Fail> {
     let script = b"flush\nreceive\n";
     let text = b"flushed\nlimit-reached\n";
-    let mut unread = plain_run(script);
+    let mut unread = plain(script);
     unread.reads = &[1];
-    let (report, sink) = run(rt.alloc(), &unread)?;
-    assert_eq!(rt; report.status, 5);
+    let (read, sink) = status(rt.alloc(), &["run"], &unread)?;
+    assert_eq!(rt; read, 5);
     assert!(rt; sink.bytes().is_empty());
-    let mut unwritten = plain_run(script);
+    let mut unwritten = plain(script);
     unwritten.writes = &[0];
     let (report, sink) = run(rt.alloc(), &unwritten)?;
     assert_eq!(rt; report.status, 6);
     assert!(rt; sink.bytes().is_empty() && report.transcript.is_some());
-    let mut short = plain_run(script);
+    let mut short = plain(script);
     short.room = 10;
-    let (report, sink) = run(rt.alloc(), &short)?;
-    assert_eq!(rt; report.status, 6);
+    let (written, sink) = status(rt.alloc(), &["run"], &short)?;
+    assert_eq!(rt; written, 6);
     assert_eq!(rt; sink.bytes(), &text[..10]);
-    let mut refused = plain_run(b"x\n");
+    let mut refused = plain(b"x\n");
     refused.room = 6;
     let (report, sink) = run(rt.alloc(), &refused)?;
     assert_eq!(rt; report.status, 3);
@@ -447,45 +226,45 @@ fn faults_of_source_and_sink_end_a_run(rt: HostRuntime) -> Result<(), Fail> {
 fn a_script_has_so_many_bytes(rt: HostRuntime) -> Result<(), Fail> {
     let mut script = Vec::new(rt.alloc());
     script.resize(1 << 20, b'\n')?;
-    let (report, _) = run(rt.alloc(), &plain_run(&script))?;
-    assert_eq!(rt; report.status, 0);
+    let (fits, _) = status(rt.alloc(), &["run"], &plain(&script))?;
+    assert_eq!(rt; fits, 0);
     script.push(b'\n')?;
-    let (report, sink) = run(rt.alloc(), &plain_run(&script))?;
-    assert_eq!(rt; report.status, 7);
+    let (over, sink) = status(rt.alloc(), &["run"], &plain(&script))?;
+    assert_eq!(rt; over, 7);
     assert!(rt; sink.bytes().is_empty());
     Ok(())
 }
 
+// The picture would have six billion samples.
 #[test]
-fn adapters_count_faults(rt: HostRuntime) -> Result<(), Fail> {
-    let mut source = Reading::new(b"ab".as_slice());
-    let mut buf = [0; 4];
-    assert_eq!(rt; source.read(&mut buf), Ok(2));
-    assert_eq!(rt; buf, [b'a', b'b', 0, 0]);
-    assert_eq!(rt; source.read(&mut buf), Ok(0));
-    let mut room = [0; 2];
-    let mut sink = Writing::new(room.as_mut_slice());
-    assert_eq!(rt; sink.write(b"abc"), Ok(2));
-    assert_eq!(rt; sink.write(b"c"), Err(Failed));
-    assert_eq!(rt; sink.write(b""), Ok(0));
+fn a_script_that_sends_nothing_has_no_picture(rt: HostRuntime) -> Result<(), Fail> {
+    let script = b"size 65535 65535\nflush\nreceive\n";
+    let (status, sink) = status(rt.alloc(), &["run"], &plain(script))?;
+    assert_eq!(rt; status, 0);
+    assert_eq!(rt; sink.bytes(), b"flushed\nlimit-reached\n".as_slice());
     Ok(())
 }
 
 #[test]
 fn help_and_version_are_printed_whole(rt: HostRuntime) -> Result<(), Fail> {
-    for (word, begins) in [
-        ("--help", "session_script: runs a script"),
-        ("--version", "session_script 0.1.0"),
-    ] {
-        let mut words = Vec::new(rt.alloc());
-        words.push(String::from_str(rt.alloc(), word)?)?;
-        let text = asked(&words).ok_or("no text")?;
-        assert!(rt; text.starts_with(begins), "{word}");
-        let mut sink = MemSink::new(rt.alloc(), 1 << 12, Vec::new(rt.alloc()))?;
-        assert_eq!(rt; print(&mut sink, text), 0);
+    let mut help = String::new(rt.alloc());
+    for line in HELP_LINES {
+        help.push_str(line)?;
+        help.push_str("\n")?;
+    }
+    let cases: [(&[&str], &str); 2] = [
+        (&["--help"], help.as_str()),
+        (&["--version"], "session_script 0.1.0\n"),
+    ];
+    for (words, text) in cases {
+        let mut case = plain(b"x\n");
+        let (printed, sink) = status(rt.alloc(), words, &case)?;
+        assert_eq!(rt; printed, 0);
         assert_eq!(rt; sink.bytes(), text.as_bytes());
-        words.push(String::from_str(rt.alloc(), "more")?)?;
-        assert!(rt; asked(&words).is_none());
+        case.room = 3;
+        let (cut, sink) = status(rt.alloc(), words, &case)?;
+        assert_eq!(rt; cut, 6);
+        assert_eq!(rt; sink.bytes(), b"ses".as_slice());
     }
     Ok(())
 }

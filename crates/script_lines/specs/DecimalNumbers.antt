@@ -1,0 +1,18 @@
+-- A number of a script.
+use Rattle.std.specs.Prelude.{ℕ, ◌^◌, ◌==◌, ◌&&◌, ◌||◌, nat_lt, if◌then◌else◌, List, length, Option, None, Some}
+use Rattle.std.specs.Char.{is_ascii_digit}
+use Rattle.std.specs.List.{list_all}
+use Rattle.std.specs.Str.Parse.{digits_value}
+use Rattle.script_lines.specs.declared.number.TheConstants.{MOST_DIGITS}
+
+-- the number that decimal digits write, if it fits 64 bits
+unfoldable pub digits_of : List ℕ → Option ℕ
+digits_of text =
+    if list_all is_ascii_digit text && nat_lt (digits_value 10 text) (2 ^ 64)
+    then Some (digits_value 10 text)
+    else None
+
+-- the number that a text of 1 to 20 digits writes
+unfoldable pub number_of : List ℕ → Option ℕ
+number_of text =
+    if length text == 0 || nat_lt MOST_DIGITS (length text) then None else digits_of text

@@ -1,0 +1,4 @@
+pub mod DecimalNumbers
+pub mod Grammar
+pub mod Lines
+pub mod SettingLines

@@ -1,0 +1,39 @@
+ghost use Rattle.std.specs.Prelude.{◌≡◌, ◌+◌, ◌*◌, ◌^◌, ◌&&◌, nat_lt, None, Some, if◌then◌else◌};
+ghost use Rattle.std.specs.Char.{digit_value, is_ascii_digit};
+ghost use Rattle.script_lines.specs.DecimalNumbers.{number_of, digits_of};
+
+// The most digits of a number.
+const MOST_DIGITS: usize = 20;
+
+/// The number that 1 to 20 decimal digits write, if it fits 64 bits.
+#[tactic(auto, unfolding(crate::specs::DecimalNumbers::number_of))]
+pub fn number(text: &[u8]) -> Option<u64>
+    ensures { result ≡ number_of text.now }
+{
+    if text.is_empty() || text.len() > MOST_DIGITS {
+        return None;
+    }
+    digits(text)
+}
+
+// The number that digits write, if it fits 64 bits.
+fn digits(text: &[u8]) -> Option<u64>
+    ensures { result ≡ digits_of text.now }
+{
+    let mut value: u64 = 0;
+    for byte in text {
+        value = with_digit(value, *byte)?;
+    }
+    Some(value)
+}
+
+// The number with one more digit.
+fn with_digit(value: u64, byte: u8) -> Option<u64>
+    ensures { let next = value * 10 + digit_value byte in
+        result ≡ (if is_ascii_digit byte && nat_lt next (2 ^ 64) then Some next else None) }
+{
+    if !byte.is_ascii_digit() {
+        return None;
+    }
+    value.checked_mul(10)?.checked_add(u64::from(byte - b'0'))
+}

@@ -1,0 +1,2 @@
+pub mod ByteBounds
+pub mod LogBytes

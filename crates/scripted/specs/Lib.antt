@@ -1,0 +1,3 @@
+pub mod CoderLog
+pub mod NoLevels
+pub mod ScriptedBytes

@@ -1,7 +1,0 @@
-use Rattle.std.proofs.Common.{append_assoc}
-use Rattle.session_script.specs.Report.{code_line}
-use Rattle.session_script.proofs.report.write_code.Goals as goal
-
-pub returns : goal.returns
-unfolding code_line
-returns c = rw (c.in_ok-writeln.ensures.bytes, c.in_ok-write_slots.ensures, c.in_ok-write.ensures.bytes) (simp append_assoc)

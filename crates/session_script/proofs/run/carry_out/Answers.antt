@@ -1,0 +1,7 @@
+use Rattle.session_script.proofs.Answered.{read_outcome}
+use Rattle.session_script.proofs.run.carry_out.Goals as goal
+
+pub returns-in-Ok-clause-cause : goal.returns-in-Ok-clause-cause
+returns-in-Ok-clause-cause g c =
+    read_outcome _ _ c.in-Ok.bytes.items c.carry_out_bytes.result c.in-Ok.ensures.whole
+    (rw c.deref.ensures.value at c.carry_out_bytes.ensures.outcome)

@@ -1,8 +1,0 @@
-use Rattle.session_script.proofs.ScriptedBytes.{byte_bounds}
-use Rattle.session_script.proofs.scripted.ScriptedCoderFrameCoderU8.code.Goals as goal
-
-pub returns-in-Ok-clause-some_bytes : goal.returns-in-Ok-clause-some_bytes
-returns-in-Ok-clause-some_bytes c = rw c.in-Ok.ensures.bytes (byte_bounds c.args.job.now.command).0
-
-pub returns-in-Ok-clause-few_bytes : goal.returns-in-Ok-clause-few_bytes
-returns-in-Ok-clause-few_bytes c = rw c.in-Ok.ensures.bytes (byte_bounds c.args.job.now.command).1

@@ -1,0 +1,179 @@
+-- The outcomes of a run: the status, the text and the report of each, and when it comes.
+use Rattle.std.specs.Prelude.{◌≡◌, ⊤, ℕ, ◌+◌, ◌≤◌, ◌⊎◌, ◌↔◌, Bool, true, false, IsTrue, nat_lt, if◌then◌else◌, List, [], ◌∷◌, ◌++◌, length, Option, None, Some, IfSome, Result, Err, codes, decimal, String}
+use Rattle.std.specs.declared.alloc.Global.{Global}
+use Rattle.std.specs.Io.KnownBytes.{Appends, Keeps}
+use Rattle.coding_base.specs.Faults.{Rose}
+use Rattle.byte_streams.specs.Streams.{GrowsByPart, IsTooLong, ReadsAll, TakesAtMost}
+use Rattle.script_lines.specs.declared.script.Script.{Script}
+use Rattle.script_lines.specs.Grammar.{script_of}
+use Rattle.session_core.specs.declared.transcript.Transcript.{Transcript}
+use Rattle.session_text.specs.ReportLines.{report}
+use Rattle.session_script.specs.declared.outcome.Outcome.{Outcome}
+use Rattle.session_script.specs.declared.outcome.Outcome.TheVariants.{WrongWords, Unreadable, TooLong, BadLine, Refused, CoderFault, Done, Unwritten, OutOfMemory}
+use Rattle.session_script.specs.declared.outcome.Report.{Report}
+use Rattle.session_script.specs.declared.run.TheConstants.{MOST_BYTES}
+use Rattle.session_script.specs.Carried.{CoderSpan, IsCarriedOut, IsRefused, IsStopped, status_for_script}
+use Rattle.session_script.specs.Words.{AskForRun}
+
+-- ---- what an outcome answers
+
+abbrev pub status_of : Outcome → ℕ
+status_of (Done transcript) = 0
+status_of WrongWords = 2
+status_of (BadLine line) = 3
+status_of (Refused number) = 4
+status_of Unreadable = 5
+status_of (Unwritten transcript) = 6
+status_of TooLong = 7
+status_of (CoderFault command) = 8
+status_of OutOfMemory = 9
+
+abbrev pub line_of : Outcome → Option ℕ
+line_of (BadLine line) = Some line
+line_of outcome = None
+
+abbrev pub config_of : Outcome → Option ℕ
+config_of (Refused number) = Some number
+config_of outcome = None
+
+abbrev pub command_of : Outcome → Option ℕ
+command_of (CoderFault command) = Some command
+command_of outcome = None
+
+abbrev pub transcript_of : Outcome → Option (Transcript ℕ ℕ)
+transcript_of (Done transcript) = Some transcript
+transcript_of (Unwritten transcript) = Some transcript
+transcript_of outcome = None
+
+abbrev pub report_of : Outcome → Report
+report_of outcome = record {
+  status = status_of outcome;
+  line = line_of outcome;
+  config = config_of outcome;
+  command = command_of outcome;
+  transcript = transcript_of outcome;
+}
+
+-- the text of an outcome; of some there is none
+abbrev pub text_of : Outcome → List ℕ
+text_of (Done transcript) = report transcript.turns
+text_of (Unwritten transcript) = report transcript.turns
+text_of (BadLine line) = codes "script line " ++ (decimal line ++ 10 ∷ [])
+text_of (Refused number) = codes "invalid config " ++ (decimal number ++ 10 ∷ [])
+text_of (CoderFault command) = codes "coder fault " ++ (decimal command ++ 10 ∷ [])
+text_of outcome = []
+
+-- the outcome where the sink failed while the text was written
+abbrev pub cut_short : Outcome → Outcome
+cut_short (Done transcript) = Unwritten transcript
+cut_short outcome = outcome
+
+abbrev pub is_silent : Outcome → Bool
+is_silent WrongWords = true
+is_silent Unreadable = true
+is_silent TooLong = true
+is_silent OutOfMemory = true
+is_silent outcome = false
+
+-- ---- when an outcome comes
+
+-- a source or a sink before and after: the bytes that it tells, and how often it failed
+pub record Span : Type 0 where
+  pub known : Option (List ℕ)
+  pub known_after : Option (List ℕ)
+  pub faults : ℕ
+  pub faults_after : ℕ
+
+abbrev pub span : {S : Type 0} → (S → Option (List ℕ)) → (S → ℕ) → S → S → Span
+span told faults_of before after = record {
+  known = told before;
+  known_after = told after;
+  faults = faults_of before;
+  faults_after = faults_of after;
+}
+
+abbrev pub HasFault : Span → Type 0
+HasFault stream = Rose stream.faults stream.faults_after
+
+-- the source was read to its end, and what its bytes are as a script meets this
+abbrev pub ReadsScript : Span → (Result Script ℕ → Type 0) → Type 0
+ReadsScript source P =
+    ReadsAll MOST_BYTES source.known source.known_after (λ bytes. P (script_of bytes))
+
+-- what bytes came to as a script
+abbrev pub IsScriptOutcome : CoderSpan → Result Script ℕ → Outcome → Type 0
+IsScriptOutcome coder script (BadLine line) = script ≡ Err line
+IsScriptOutcome coder script (Refused number) = IsRefused number script
+IsScriptOutcome coder script (CoderFault command) = IsStopped coder command script
+IsScriptOutcome coder script (Done transcript) = IsCarriedOut coder transcript script
+IsScriptOutcome coder script OutOfMemory = ⊤
+IsScriptOutcome coder script outcome = ⊥
+
+-- what a source came to, before a text was written
+abbrev pub IsSourceOutcome : Span → CoderSpan → Outcome → Type 0
+IsSourceOutcome source coder Unreadable = HasFault source
+IsSourceOutcome source coder TooLong = IsTooLong MOST_BYTES source.known source.known_after
+IsSourceOutcome source coder OutOfMemory = ⊤
+IsSourceOutcome source coder WrongWords = ⊥
+IsSourceOutcome source coder (Unwritten transcript) = ⊥
+IsSourceOutcome source coder outcome =
+    ReadsScript source (λ script. IsScriptOutcome coder script outcome)
+
+-- each outcome comes only so
+abbrev pub IsOutcome : List (String Global) → Span → CoderSpan → Outcome → Type 0
+IsOutcome words source coder WrongWords = ¬ AskForRun words
+IsOutcome words source coder (Unwritten transcript) = IsSourceOutcome source coder (Done transcript)
+IsOutcome words source coder outcome = IsSourceOutcome source coder outcome
+
+-- the status for a source's bytes, where nothing fails
+abbrev pub status_for : List ℕ → ℕ
+status_for bytes =
+    if nat_lt MOST_BYTES (length bytes) then 7 else status_for_script (script_of bytes)
+
+-- the status is the one wanted; or memory ran out; or the sink failed while the report was written
+abbrev pub IsStatus : Span → ℕ → ℕ → Type 0
+IsStatus sink wanted status =
+    (status ≡ wanted) ⊎ (status ≡ 9) ⊎ ((wanted ≡ 0) × (status ≡ 6) × HasFault sink)
+
+-- what a sink was given for an outcome
+pub record IsWritten (sink : Span) (outcome : Outcome) : Type 0 where
+  -- the text or a front of it, and the whole text where the sink didn't fail
+  pub part : GrowsByPart sink.known sink.known_after (text_of outcome)
+  pub whole : ¬ HasFault sink → Appends sink.known sink.known_after (text_of outcome)
+  -- after status 0 the report is whole, and status 6 is the sink's fault
+  pub done : status_of outcome ≡ 0 → Appends sink.known sink.known_after (text_of outcome)
+  pub unwritten : status_of outcome ≡ 6 → HasFault sink
+  -- without a text nothing is written
+  pub silent : IsTrue (is_silent outcome) →
+      Keeps sink.known sink.known_after × (sink.faults_after ≡ sink.faults)
+  pub later : sink.faults ≤ sink.faults_after
+
+-- an outcome after its text was written: the same; or memory ran out for the text; or the sink failed
+abbrev pub IsTold : Outcome → Outcome → Type 0
+IsTold outcome told = (told ≡ outcome) ⊎ (told ≡ OutOfMemory) ⊎ (told ≡ cut_short outcome)
+
+-- a run of the program over a source, a sink and a coder, and what it came to
+pub record IsRun
+    (words : List (String Global)) (source sink : Span) (coder : CoderSpan) (outcome : Outcome)
+    : Type 0 where
+  -- the words alone decide whether there is a run
+  pub runs : (status_of outcome ≡ 2) ↔ ¬ AskForRun words
+  -- each outcome comes only where its cause is
+  pub cause : IsOutcome words source coder outcome
+  -- where the source doesn't fail, its bytes decide the status
+  pub exact : AskForRun words → ¬ HasFault source →
+      IfSome source.known (λ bytes. IsStatus sink (status_for bytes) (status_of outcome))
+  -- the program's coder never fails
+  pub able : command_of outcome ≡ None
+  -- what is read, and written
+  pub reads : TakesAtMost (MOST_BYTES + 1) source.known source.known_after
+  pub reads_later : source.faults ≤ source.faults_after
+  pub writes : IsWritten sink outcome
+
+-- what the program answers: the report of a run with its own coder, which was asked for nothing before
+pub record IsAnswer (words : List (String Global)) (source sink : Span) (answer : Report) : Type 0 where
+  pub outcome : Outcome
+  pub coder : CoderSpan
+  pub is : answer ≡ report_of outcome
+  pub fresh : coder.told.coder ≡ Some []
+  pub run : IsRun words source sink coder outcome

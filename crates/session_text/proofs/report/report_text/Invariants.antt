@@ -1,0 +1,6 @@
+use Rattle.std.proofs.Common.{◌≡◌, take, string_bytes}
+use Rattle.session_text.specs.ReportLines.{report}
+use Rattle.session_text.proofs.report.report_text.Given as goal
+
+abbrev pub invariant-loop-turn : goal.invariant-loop-turn
+invariant-loop-turn g l = string_bytes l.text ≡ report (take l.turn-index l.turns)

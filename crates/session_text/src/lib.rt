@@ -1,0 +1,10 @@
+//! Text of sessions: the lines of commands, and the report of what a session answered and coded.
+#![tactic(auto)]
+
+mod command_lines;
+mod report;
+#[cfg(test)]
+mod tests;
+
+pub use command_lines::write_command;
+pub use report::report_text;
