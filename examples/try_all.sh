@@ -1,0 +1,157 @@
+#!/usr/bin/env bash
+# Tries the built program on real streams: each status by its cause, files, pipes, a full device, a reader that goes away.
+#
+#   examples/try_all.sh [PROGRAM]
+#
+# Without a PROGRAM it tries those that `rt ci` or `rt run` built, by one compiler or by two. The last line for each is
+# 'N passed, M failed'; the status is 1 where one failed, or where there is no program.
+set -u
+cd "$(dirname "$0")" || exit 1
+if [ $# -eq 0 ]; then
+    built=../crates/session_script/out/session_script
+    status=0
+    for program in "$built" "$built.by-rattle"; do
+        if [ -x "$program" ] || [ "$program" = "$built" ]; then
+            ./try_all.sh "$program" || status=1
+        fi
+    done
+    exit $status
+fi
+program=$(realpath "$1")
+if [ ! -x "$program" ]; then
+    echo "no program at $1: rt ci builds it, and so does rt run in crates/session_script"
+    exit 1
+fi
+work=$(mktemp -d)
+trap 'rm -rf "$work"' EXIT
+passed=0
+failed=0
+
+# Compares the status of the last run, and what it wrote, with what is wanted; nothing goes to standard error.
+compare() {
+    local name=$1 status=$2 file=$3 got=$4
+    if [ "$got" = "$status" ] && cmp -s "$file" "$work/out" && [ ! -s "$work/err" ]; then
+        passed=$((passed + 1))
+    else
+        failed=$((failed + 1))
+        echo "FAILED $name: status $got, wanted $status"
+        diff "$file" "$work/out" | head -n 5
+        head -n 5 "$work/err"
+    fi
+}
+
+# The same with the text itself.
+wanted() {
+    printf '%b' "$3" >"$work/wanted"
+    compare "$1" "$2" "$work/wanted" "$4"
+}
+
+# Runs the program on a script, with these words.
+run() {
+    local script=$1
+    shift
+    printf '%b' "$script" | "$program" "$@" >"$work/out" 2>"$work/err"
+}
+
+# Each example has its report beside it, or the line that says why there is none.
+for script in *.txt; do
+    report=${script%.txt}.report
+    case $(head -n 1 "$report") in
+        "script line "*) status=3 ;;
+        "invalid config "*) status=4 ;;
+        *) status=0 ;;
+    esac
+    "$program" run <"$script" >"$work/out" 2>"$work/err"
+    compare "$script" "$status" "$report" $?
+done
+
+# Status 0: nothing to do; the last line without its end; a script that comes in pieces.
+run '' run
+wanted 'an empty script' 0 '' $?
+one='sent 0\nflushed\ncode 0 key refs - refresh 255 shown\nFrame 0 - Key frame - 102 bytes\n'
+run 'send\nflush\nreceive' run
+wanted 'no line feed at the end' 0 "$one" $?
+{
+    printf 'se'
+    sleep 0.2
+    printf 'nd\nflu'
+    sleep 0.2
+    printf 'sh\nreceive\n'
+} | "$program" run >"$work/out" 2>"$work/err"
+wanted 'a script in pieces' 0 "$one" $?
+
+# Status 2: other words. Nothing is read.
+for words in '' 'walk' 'run x' 'RUN' '--help x' 'x --version'; do
+    # The words are split on purpose.
+    # shellcheck disable=SC2086
+    run 'send\n' $words
+    wanted "the words '$words'" 2 '' $?
+done
+printf 'send\n' >"$work/script"
+{
+    "$program" walk >/dev/null
+    cat
+} <"$work/script" >"$work/out" 2>"$work/err"
+wanted 'nothing is read' 0 'send\n' $?
+
+# Status 3: a wrong line, by its number.
+run 'x\n' run
+wanted 'an unknown word' 3 'script line 1\n' $?
+run 'size 64 80\r\nflush\r\n' run
+wanted 'carriage returns' 3 'script line 1\n' $?
+run '\n# none\nsize 64 80\nsize 64 80\n' run
+wanted 'a setting twice' 3 'script line 4\n' $?
+run 'send 99999\nflush\nflush\n' run
+wanted 'too many calls' 3 'script line 3\n' $?
+
+# Status 4: a setting out of its range.
+run 'size 16 65536\nflush\n' run
+wanted 'a height out of range' 4 'invalid config 2\n' $?
+
+# Status 5: standard input is a directory, or closed.
+"$program" run <"$work" >"$work/out" 2>"$work/err"
+wanted 'a directory' 5 '' $?
+"$program" run <&- >"$work/out" 2>"$work/err"
+wanted 'no standard input' 5 '' $?
+
+# Status 6: standard output is full, or closed, or its reader goes away. A line that names a fault keeps its status.
+: >"$work/out"
+if [ -c /dev/full ]; then
+    printf 'send\n' | "$program" run >/dev/full 2>"$work/err"
+    wanted 'a full device' 6 '' $?
+    "$program" --help >/dev/full 2>"$work/err"
+    wanted 'a text on a full device' 6 '' $?
+    printf 'x\n' | "$program" run >/dev/full 2>"$work/err"
+    wanted 'a wrong line on a full device' 3 '' $?
+fi
+printf 'send\n' | "$program" run >&- 2>"$work/err"
+wanted 'no standard output' 6 '' $?
+printf 'send 90000\n' | "$program" run 2>"$work/err" | true
+wanted 'a reader that goes away' 6 '' "${PIPESTATUS[1]}"
+
+# Status 7: one byte too many.
+head -c 1048576 /dev/zero | tr '\0' '\n' | "$program" run >"$work/out" 2>"$work/err"
+wanted 'as many bytes as may be' 0 '' $?
+head -c 1048577 /dev/zero | tr '\0' '\n' | "$program" run >"$work/out" 2>"$work/err"
+wanted 'a byte too many' 7 '' $?
+
+# Status 9: no memory for a picture; and none is wanted without a frame.
+(
+    ulimit -v 2000000
+    run 'size 65535 65535\nsend\n' run
+)
+wanted 'no memory' 9 '' $?
+run 'size 65535 65535\nflush\nreceive\n' run
+wanted 'no picture' 0 'flushed\nlimit-reached\n' $?
+
+# The texts.
+"$program" --version >"$work/out" 2>"$work/err"
+wanted 'the version' 0 'session_script 0.1.0\n' $?
+"$program" --help >"$work/out" 2>"$work/err"
+status=$?
+lines=$(grep -c '' "$work/out")
+[ "$lines" -gt 20 ] && head -n 1 "$work/out" | grep -q '^session_script: ' && : >"$work/out"
+wanted 'the help' 0 '' $status
+
+echo "$passed passed, $failed failed"
+[ "$failed" -eq 0 ]
