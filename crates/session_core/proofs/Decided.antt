@@ -1,10 +1,10 @@
 -- The decisions of a moment: they grow, each is of its position and has its frame's mark, and the keys are among them.
-use Rattle.std.proofs.Common.{◌≡◌, ℕ, zero, suc, ◌+◌, ◌-◌, ◌<◌, ◌≤◌, Bool, true, false, cond, ltb, List, [], ◌∷◌, ◌++◌, map, length, drop, filter, Option, Some, None, All, option_map, slice_get, refl, sym, ap, ap₂, ◌∙◌, subst, arith, le_refl}
+use Rattle.std.proofs.Common.{◌≡◌, ℕ, zero, suc, ◌+◌, ◌-◌, ◌<◌, ◌≤◌, Bool, IsTrue, true, false, cond, ltb, List, [], ◌∷◌, ◌++◌, map, length, drop, filter, Option, Some, None, All, option_map, slice_get, refl, sym, ap, ap₂, ◌∙◌, subst, arith, le_refl}
 use Rattle.std.specs.List.{range_with_len}
 use Rattle.std.specs.Option.{option_map_or}
 use Rattle.std.proofs.lemmas.Bool.{cond_both, cond-false, le-ltb}
 use Rattle.std.proofs.lemmas.List.{map-append, length-append}
-use Rattle.std.proofs.lemmas.List.Elements.{All-nil, All-cons, filter-append}
+use Rattle.std.proofs.lemmas.List.Elements.{All-nil, All-cons, All-append, filter-append}
 use Rattle.std.proofs.lemmas.Option.{slice_get-map}
 use Rattle.pyramid.specs.Numbers.{Numbers, ahead}
 use Rattle.session_core.specs.declared.transcript.Decision.{Decision}
@@ -84,25 +84,31 @@ forced_at-sent {T} {O} moment sent number frames later =
 
 -- ---- decisions
 
-abbrev position_of : Decision → ℕ
+abbrev pub position_of : Decision → ℕ
 position_of decision = decision.position
 
 abbrev forced_of : Decision → Bool
 forced_of decision = decision.forced
 
--- each of them is of the next position from 1 on, with the mark of the frame sent under it
+-- a forced decision is a key
+abbrev pub IsMarkedKey : Decision → Type 0
+IsMarkedKey decision = IsTrue decision.forced → IsTrue decision.key
+
+-- each of them is of the next position from 1 on, with the mark of the frame sent under it, and a key where it is forced
 pub record AreDecided {T O : Type 0} (sent : List (Accepted T O)) (decisions : List Decision) : Type 0 where
   pub positions : map (λ decision. decision.position) decisions ≡ range_with_len 1 (length decisions)
   pub marks : map (λ decision. decision.forced) decisions ≡ map (mark_of sent) (range_with_len 1 (length decisions))
+  pub keys : All IsMarkedKey decisions
 
 pub decided-none : {T O : Type 0} (sent : List (Accepted T O)) → AreDecided sent []
-decided-none sent = record { positions = refl; marks = refl }
+decided-none sent = record { positions = refl; marks = refl; keys = All-nil IsMarkedKey }
 
 -- frames sent later aren't among them
 pub decided-sent : {T O : Type 0} (sent more : List (Accepted T O)) (decisions : List Decision) → length decisions ≤ length sent - 1 → AreDecided sent decisions → AreDecided (sent ++ more) decisions
 decided-sent {T} {O} sent more decisions few are = record {
   positions = are.positions;
   marks = are.marks ∙ map_range_agree (mark_of sent) (mark_of (sent ++ more)) 1 (length decisions) (λ k low high. sym (same k (within k low high)));
+  keys = are.keys;
 }
   where
     within : (k : ℕ) → 1 ≤ k → k < 1 + length decisions → k < length sent
@@ -129,6 +135,7 @@ decided-made {T} {O} after sent before made frames late are new = record {
       ∙ ap (λ (n : ℕ). map (mark_of sent) (range_with_len n (length made))) next)
       ∙ sym (map-append (mark_of sent) (range_with_len 1 (length before)) (range_with_len (1 + length before) (length made)))
       ∙ ap (map (mark_of sent)) (range-append 1 (length before) (length made) ∙ ap (range_with_len 1) (sym (length-append before made)));
+  keys = All-append IsMarkedKey before made are.keys new.keys;
 }
   where
     next : length before + 1 ≡ 1 + length before

@@ -10,7 +10,6 @@ use Rattle.session_core.specs.declared.call.Call.{Call}
 use Rattle.session_core.specs.declared.packet.Packet.{Packet}
 use Rattle.session_core.specs.declared.transcript.Decision.{Decision}
 use Rattle.session_core.specs.declared.transcript.Turn.{Turn}
-use Rattle.session_core.specs.Decisions.{AreUnasked}
 use Rattle.session_core.specs.Moments.{opening, plan_at}
 use Rattle.session_core.specs.Sessions.{AreTurns, moment_after, accepted_in, entries_of, commands_of, packets_of, packet_bytes, AreKeyDecisions, IsPrefix, Replays, ArePackets, Headline}
 use Rattle.session_core.specs.Turns.{real_entries, after_turn, IsTurn}
@@ -53,11 +52,11 @@ module _ {T O : Type 0} (enc : EncoderConfig) (whole : List Decision) (calls : L
         opaques = given.opaques;
       }
 
-  -- the decisions made by the end, where nobody was asked
-  pub decided-keys : whole ≡ (moment_after enc whole calls turns).decisions → AreUnasked whole → AreKeyDecisions (accepted_in calls turns) whole
-  decided-keys all unasked =
+  -- the decisions made by the end
+  pub decided-keys : whole ≡ (moment_after enc whole calls turns).decisions → AreKeyDecisions (accepted_in calls turns) whole
+  decided-keys all =
       let made : AreDecided (accepted_in calls turns) whole = subst (AreDecided (accepted_in calls turns)) (sym all) (history-after enc whole calls turns are).history.sound.are in
-      record { positions = made.positions; forced = made.marks; keys = unasked }
+      record { positions = made.positions; forced = made.marks; keys = made.keys }
 
 pub headline-after : {T O : Type 0} (enc : EncoderConfig) (whole : List Decision) (calls : List (Call T O)) (turns : List (Turn T O)) → AreTurns enc whole calls turns → Headline enc whole calls turns
 headline-after {T} {O} enc whole calls turns are = record {

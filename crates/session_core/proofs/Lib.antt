@@ -1,7 +1,10 @@
 mod Along
+mod Asked
+mod Asking
 mod CallLoop
 mod Completion
 mod Decided
+mod Deciding
 mod HeadlineLaw
 mod History
 mod Lookahead
@@ -9,11 +12,13 @@ mod KnownBehind
 mod PlanAt
 mod PlanFronts
 mod RunHistory
+mod Schedules
 pub mod SessionLaws
 mod Sound
 mod SoundTurns
 mod StateLemmas
 mod Steps
 mod Taken
+mod Telling
 mod WaitingKinds
 mod Widen

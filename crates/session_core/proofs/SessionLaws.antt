@@ -6,18 +6,21 @@ use Rattle.pyramid.specs.declared.command.Command.{Command}
 use Rattle.session_core.specs.declared.call.Call.{Call}
 use Rattle.session_core.specs.declared.transcript.Decision.{Decision}
 use Rattle.session_core.specs.declared.transcript.LogEntry.{LogEntry}
+use Rattle.session_core.specs.declared.transcript.Transcript.{Transcript}
 use Rattle.session_core.specs.declared.transcript.Turn.{Turn}
 use Rattle.session_core.specs.Answers.{Codes}
-use Rattle.session_core.specs.Decisions.{AreUnasked}
 use Rattle.session_core.specs.Moments.{opening, plan_at}
-use Rattle.session_core.specs.Sessions.{AreTurns, moment_after, accepted_in, entries_of, commands_of, AreKeyDecisions, IsTaken, Headline}
+use Rattle.session_core.specs.Questions.{questions, questions_in}
+use Rattle.session_core.specs.Sessions.{AreTurns, moment_after, accepted_in, entries_of, commands_of, AreKeyDecisions, IsTaken, Headline, KeepsSchedule}
 use Rattle.session_core.specs.States.{IsReady, told_at}
 use Rattle.session_core.specs.Told.{Grew, Heard}
-use Rattle.session_core.specs.Turns.{BeginTrials}
+use Rattle.session_core.specs.Turns.{after_turn, BeginTrials, IsTurn}
 pub use Rattle.session_core.proofs.Taken.{told_turns}
 use Rattle.session_core.proofs.HeadlineLaw.{headline-after, decided-keys}
 use Rattle.session_core.proofs.Lookahead.{ready-after}
 use Rattle.session_core.proofs.RunHistory.{commands-first, commands-counted}
+use Rattle.session_core.proofs.Schedules.{keeps-schedule}
+use Rattle.session_core.proofs.Asked as Asked
 use Rattle.session_core.proofs.Taken as Taken
 use Rattle.session_core.proofs.Widen as Widen
 
@@ -43,9 +46,19 @@ module _ {T O : Type 0} (enc : EncoderConfig) (decisions : List Decision) (calls
   headline-of are = headline-after enc decisions calls turns are
 
   -- the decisions made by the end are of their positions, with their frames' marks
-  pub keys-of : AreTurns enc decisions calls turns → decisions ≡ (moment_after enc decisions calls turns).decisions → AreUnasked decisions →
+  pub keys-of : AreTurns enc decisions calls turns → decisions ≡ (moment_after enc decisions calls turns).decisions →
       AreKeyDecisions (accepted_in calls turns) decisions
-  keys-of are all unasked = decided-keys enc decisions calls turns are all unasked
+  keys-of are all = decided-keys enc decisions calls turns are all
+
+  -- a call's questions join those before it
+  pub asked-turn : 1 ≤ enc.speed_settings.rdo_lookahead_frames → AreTurns enc decisions calls turns → (call : Call T O) (turn : Turn T O) →
+      IsTurn enc decisions (moment_after enc decisions calls turns) call turn →
+      (moment_after enc decisions calls turns).decisions
+      ≡ take (length (moment_after enc decisions calls turns).decisions) (after_turn enc decisions (moment_after enc decisions calls turns) call turn).decisions →
+      questions enc (accepted_in (calls ++ call ∷ []) (turns ++ turn ∷ [])) (after_turn enc decisions (moment_after enc decisions calls turns) call turn).decisions
+      ≡ questions enc (accepted_in calls turns) (moment_after enc decisions calls turns).decisions
+      ++ questions_in enc (moment_after enc decisions calls turns) (after_turn enc decisions (moment_after enc decisions calls turns) call turn)
+  asked-turn looks are call turn is kept = Asked.asked-turn enc decisions calls turns looks are call turn is kept
 
   -- told turn by turn is what the coder took
   pub taken-all : (before after : Heard T) → AreTurns enc decisions calls turns → Grew before.coder after.coder (told_turns enc decisions opening calls turns) →
@@ -68,3 +81,8 @@ module _ {T O : Type 0} (enc : EncoderConfig) (decisions : List Decision) (calls
   pub widen-told : (more : List Decision) → AreTurns enc decisions calls turns →
       told_turns enc (decisions ++ more) opening calls turns ≡ told_turns enc decisions opening calls turns
   widen-told more are = Widen.widen-told enc decisions more calls turns are
+
+-- other calls between the same frames, with the same decisions, give the same commands as far as both go
+pub schedule-of : {T O : Type 0} (enc : EncoderConfig) (calls : List (Call T O)) (transcript : Transcript T O) → AreTurns enc transcript.decisions calls transcript.turns →
+    transcript.decisions ≡ (moment_after enc transcript.decisions calls transcript.turns).decisions → KeepsSchedule enc calls transcript
+schedule-of enc calls transcript are decided = keeps-schedule enc calls transcript are decided

@@ -179,6 +179,7 @@ module _ {T O : Type 0} (enc : EncoderConfig) (whole : List Decision) (moment : 
     few = sound.few;
     waits = waits;
     decided = sound.decided;
+    in_order = sound.are.positions;
     late = late;
     there = λ due. further moment.commands (length (known_at enc moment)) (length (plan_at enc moment)) (there due) (known-within enc moment);
     next = can;

@@ -88,7 +88,7 @@ module _ {T O : Type 0} (enc : EncoderConfig) (whole : List Decision) (moment : 
           ∙ sym (drop-append-le moment.packets sent (frame ∷ []) (subst (λ (n : ℕ). moment.packets ≤ n) sound.accepted (packets-within enc whole moment sent done sound)))
 
   -- a second flush leaves the moment
-  flushed_again : moment.flushed ≡ true → after_flush enc whole moment ≡ moment
+  pub flushed_again : moment.flushed ≡ true → after_flush enc whole moment ≡ moment
   flushed_again flushed =
       let with_end : Bool → List Decision → Moment T O = λ f d. record moment { flushed = f; decisions = d } in
       ap₂ with_end (sym flushed) (sym (sound.decisions ∙ ap (decisions_at (numbers_of enc) whole moment.accepted) flushed))

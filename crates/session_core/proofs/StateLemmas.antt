@@ -1,26 +1,24 @@
 -- Lemmas on the state of a session.
-use Rattle.std.proofs.Common.{◌≡◌, ℕ, zero, suc, ◌+◌, ◌-◌, ◌≤◌, ◌<◌, Bool, true, false, cond, eqb, IsTrue, List, [], ◌∷◌, ◌++◌, map, filter, length, get_or, set, take, drop, All, Option, Some, IsSome, refl, sym, ◌∙◌, ap, subst, append_assoc, arith}
+use Rattle.std.proofs.Common.{◌≡◌, ℕ, ◌-◌, ◌≤◌, ◌<◌, Bool, List, map, length, get_or, set, Option, Some, IsSome, refl, sym, ◌∙◌, ap, subst, [], None}
 use Rattle.std.specs.Option.{option_and_then, option_map}
-use Rattle.std.specs.List.{slice_get, range_with_len}
-use Rattle.std.proofs.lemmas.Bool.{le-ltb, ne_eqb}
-use Rattle.std.proofs.Math.Seq.{drop-append_seam, take-append_seam, take-length}
-use Rattle.std.proofs.lemmas.List.{map-set, map-append, length-append}
-use Rattle.std.proofs.lemmas.List.Elements.{All-nil, All-cons, filter-append}
-use Rattle.std.proofs.lemmas.List.FromFn.{map-range_with_len_more, length-map-range_with_len}
+use Rattle.std.specs.List.{slice_get}
+use Rattle.std.proofs.lemmas.Bool.{le-ltb}
+use Rattle.std.proofs.lemmas.List.{map-set}
 use Rattle.std.proofs.lemmas.Option.{slice_get-map, slice_get_read}
 use Rattle.av1_settings.specs.declared.encoder.EncoderConfig.{EncoderConfig}
 use Rattle.av1_settings.specs.declared.frame_type.FrameType.{FrameType}
-use Rattle.pyramid.specs.Settings.{numbers_of}
 use Rattle.pyramid.specs.declared.command.Command.{Command}
 use Rattle.pyramid.specs.declared.command.Command.TheVariants.{Code, Show}
+use Rattle.session_core.specs.declared.session.SessionError.{SessionError}
+use Rattle.session_core.specs.declared.session.SessionError.TheVariants.{CoderFault, Invalid, OutOfMemory, Unbuilt}
 use Rattle.session_core.specs.declared.transcript.LogEntry.{LogEntry}
 use Rattle.session_core.specs.declared.state.SessionState.{SessionState}
 use Rattle.session_core.specs.declared.state.WaitingFrame.{WaitingFrame}
-use Rattle.session_core.specs.declared.transcript.Decision.{Decision}
-use Rattle.session_core.specs.Decisions.{AreUnasked, decided_count, decisions_at, key_positions, keys_of}
-use Rattle.session_core.specs.Moments.{Waiting, Moment}
-use Rattle.session_core.specs.States.{CanCode, waiting_of, moment_of, sent_decision, sent_decisions, KeepsKeys}
-use Rattle.session_core.specs.Turns.{AreMade, Decides, forced_at, noted, shown_coding, with_coding}
+use Rattle.session_core.specs.Moments.{Waiting, Moment, plan_at}
+use Rattle.session_core.specs.States.{CanCode, Fails, FailsCoding, waiting_of, moment_of}
+use Rattle.session_core.specs.Told.{Told}
+use Rattle.session_core.specs.Turns.{forced_at, held_back, noted, shown_coding, with_coding}
+use Rattle.session_core.proofs.Telling.{given-none}
 
 -- a frame that waits is coded
 pub noted-set : {T O : Type 0} (items : List (WaitingFrame T O)) (index : ℕ) (one : WaitingFrame T O) (kind : FrameType) →
@@ -51,166 +49,6 @@ forced-read state p one late within read =
     ∙ ap (option_map waiting_of) (slice_get_read items (length items) (p - state.packets) one refl within read) in
     rw (le-ltb p state.packets late, there) refl
 
--- one more decision, which is a key or not
-pub keys_of-push : (accepted : ℕ) (decisions : List Decision) (one : Decision) → 0 < accepted →
-    keys_of accepted (decisions ++ one ∷ []) ≡ keys_of accepted decisions ++ cond one.key (one.position ∷ []) []
-keys_of-push accepted decisions one some =
-    let e : eqb accepted 0 ≡ false = ne_eqb accepted 0 (λ is. omega arith) in
-    rw (
-      e,
-      filter-append (λ (d : Decision). d.key) decisions (one ∷ []),
-      map-append (λ (d : Decision). d.position) (filter (λ (d : Decision). d.key) decisions) (filter (λ (d : Decision). d.key) (one ∷ [])),
-    )
-    (ap (λ (l : List ℕ). 0 ∷ (key_positions decisions ++ l)) (last one.key))
-  where
-    last : (key : Bool) → map (λ (d : Decision). d.position) (cond key (one ∷ []) []) ≡ cond key (one.position ∷ []) []
-    last true = refl
-    last false = refl
-
--- what the loop over the positions keeps, before position p
-pub record Deciding {T O : Type 0} (before now : SessionState T O) (p : ℕ) : Type 0 where
-  pub others : now ≡ record before { decisions = now.decisions; keys = now.keys }
-  pub decided : now.decisions.items
-      ≡ before.decisions.items ++ sent_decisions (moment_of before) (length before.decisions.items + 1) (p - (length before.decisions.items + 1))
-  pub keys : KeepsKeys now
-
--- one turn of that loop
-pub decide-step : {T O : Type 0} (before now after : SessionState T O) (p : ℕ) (one : WaitingFrame T O) →
-    Deciding before now p → after ≡ record now { decisions = after.decisions; keys = after.keys } →
-    length before.decisions.items + 1 ≤ p → p < before.accepted →
-    before.packets + length before.waiting.items ≡ before.accepted → before.packets ≤ p →
-    one ≡ get_or now.waiting.items (p - now.packets) one →
-    after.decisions.items ≡ now.decisions.items ++ record { position = p; forced = one.forced; key = one.forced } ∷ [] →
-    after.keys.items ≡ now.keys.items ++ cond one.forced (p ∷ []) [] →
-    Deciding before after (p + 1)
-decide-step {T} {O} before now after p one so_far only from within waits late read grown keys = record {
-  others = only ∙ ap (λ (s : SessionState T O). let t : SessionState T O = record s { decisions = after.decisions; keys = after.keys } in t) so_far.others;
-  decided = grown
-      ∙ ap (λ (l : List Decision). l ++ made ∷ []) so_far.decided
-      ∙ ap (λ (d : Decision). before.decisions.items ++ sent_decisions m first (p - first) ++ d ∷ []) decision
-      ∙ append_assoc before.decisions.items (sent_decisions m first (p - first)) (sent_decision m p ∷ [])
-      ∙ ap (λ (l : List Decision). before.decisions.items ++ l) more
-      ∙ ap (λ (n : ℕ). before.decisions.items ++ sent_decisions m first n) count;
-  keys = keys
-      ∙ ap (λ (l : List ℕ). l ++ cond one.forced (p ∷ []) []) so_far.keys
-      ∙ sym (keys_of-push now.accepted now.decisions.items made some)
-      ∙ ap (λ (l : List Decision). keys_of now.accepted l) (sym grown)
-      ∙ ap (λ (n : ℕ). keys_of n after.decisions.items) (sym same_accepted);
-}
-  where
-    first : ℕ
-    first = length before.decisions.items + 1
-
-    m : Moment T O
-    m = moment_of before
-
-    made : Decision
-    made = record { position = p; forced = one.forced; key = one.forced }
-
-    read_before : one ≡ get_or before.waiting.items (p - before.packets) one
-    read_before = read ∙ ap (λ (s : SessionState T O). get_or s.waiting.items (p - s.packets) one) so_far.others
-
-    decision : made ≡ sent_decision m p
-    decision =
-        ap (λ (b : Bool). let d : Decision = record { position = p; forced = b; key = b } in d)
-        (sym (forced-read before p one (omega arith) (omega arith) read_before))
-
-    more : sent_decisions m first (p - first) ++ sent_decision m p ∷ [] ≡ sent_decisions m first (p - first + 1)
-    more = sym (map-range_with_len_more (sent_decision m) first (p - first) p (omega arith))
-
-    count : p - first + 1 ≡ p + 1 - first
-    count = omega arith
-
-    same_accepted : after.accepted ≡ now.accepted
-    same_accepted = ap (λ (s : SessionState T O). s.accepted) only
-
-    some : 0 < now.accepted
-    some = omega (arith, ap (λ (s : SessionState T O). s.accepted) so_far.others)
-
--- ---- the decisions that a send or a flush makes
-
-sent-positions : {T O : Type 0} (m : Moment T O) (from count : ℕ) → map (λ decision. decision.position) (sent_decisions m from count) ≡ range_with_len from count
-sent-positions m from zero = refl
-sent-positions m from (suc count) = ap (λ (l : List ℕ). from ∷ l) (sent-positions m (from + 1) count)
-
-sent-marks : {T O : Type 0} (m : Moment T O) (from count : ℕ) →
-    map (λ decision. decision.forced) (sent_decisions m from count) ≡ map (forced_at m) (range_with_len from count)
-sent-marks m from zero = refl
-sent-marks m from (suc count) = ap (λ (l : List Bool). forced_at m from ∷ l) (sent-marks m (from + 1) count)
-
-sent-unasked : {T O : Type 0} (m : Moment T O) (from count : ℕ) → AreUnasked (sent_decisions m from count)
-sent-unasked m from zero = refl
-sent-unasked m from (suc count) = ap (λ (l : List Bool). forced_at m from ∷ l) (sent-unasked m (from + 1) count)
-
-abbrev MarkedKey : Decision → Type 0
-MarkedKey decision = IsTrue decision.forced → IsTrue decision.key
-
-sent-keys : {T O : Type 0} (m : Moment T O) (from count : ℕ) → All MarkedKey (sent_decisions m from count)
-sent-keys m from zero = All-nil MarkedKey
-sent-keys m from (suc count) =
-    let here : MarkedKey (sent_decision m from) = λ h. h in
-    All-cons MarkedKey (sent_decision m from) (sent_decisions m (from + 1) count) here (sent-keys m (from + 1) count)
-
--- what a step knows of its decisions: up to `last`, from those before it, at a moment that is all but the decisions its end's
-pub record Made {T O : Type 0} (before middle after : Moment T O) (last : ℕ) : Type 0 where
-  pub same : after ≡ record middle { decisions = after.decisions }
-  pub decisions : after.decisions ≡ before.decisions ++ sent_decisions middle (length before.decisions + 1) (last - length before.decisions)
-  pub more : length before.decisions ≤ last
-
-made-length : {T O : Type 0} (before middle after : Moment T O) (last : ℕ) → Made before middle after last → length after.decisions ≡ last
-made-length before middle after last made =
-    let from = length before.decisions + 1 in
-    let count = last - length before.decisions in
-    let total : length before.decisions + count ≡ last = omega (arith, made.more) in
-    ap length made.decisions ∙ length-append before.decisions (sent_decisions middle from count)
-    ∙ ap (λ (n : ℕ). length before.decisions + n) (length-map-range_with_len (sent_decision middle) from count) ∙ total
-
-pub made-decides : {T O : Type 0} (enc : EncoderConfig) (before middle after : Moment T O) (last : ℕ) → Made before middle after last →
-    last ≡ decided_count (numbers_of enc) middle.accepted middle.flushed → Decides enc before after
-made-decides {T} {O} enc before middle after last made all = record {
-  kept = sym (take-append_seam before.decisions (sent_decisions middle from count)) ∙ ap (take (length before.decisions)) (sym made.decisions);
-  count = made-length before middle after last made ∙ all ∙ ap (λ (m : Moment T O). decided_count (numbers_of enc) m.accepted m.flushed) (sym made.same);
-  made = subst (λ (new : List Decision). AreMade after from new) (sym new_ones) are;
-}
-  where
-    from : ℕ
-    from = length before.decisions + 1
-
-    count : ℕ
-    count = last - length before.decisions
-
-    new_ones : drop (length before.decisions) after.decisions ≡ sent_decisions middle from count
-    new_ones = ap (drop (length before.decisions)) made.decisions ∙ drop-append_seam before.decisions (sent_decisions middle from count)
-
-    size : length (sent_decisions middle from count) ≡ count
-    size = length-map-range_with_len (sent_decision middle) from count
-
-    are : AreMade after from (sent_decisions middle from count)
-    are = record {
-      positions = sent-positions middle from count ∙ ap (range_with_len from) (sym size);
-      forced = sent-marks middle from count
-          ∙ ap (λ (m : Moment T O). map (forced_at m) (range_with_len from count)) (sym made.same)
-          ∙ ap (λ (n : ℕ). map (forced_at after) (range_with_len from n)) (sym size);
-      keys = sent-keys middle from count;
-    }
-
--- all decisions are the first so many of themselves
-pub made-all : {T O : Type 0} (enc : EncoderConfig) (before middle after : Moment T O) (last : ℕ) → Made before middle after last →
-    last ≡ decided_count (numbers_of enc) middle.accepted middle.flushed →
-    after ≡ record middle { decisions = decisions_at (numbers_of enc) after.decisions middle.accepted middle.flushed }
-made-all {T} {O} enc before middle after last made all =
-    let whole : after.decisions ≡ decisions_at (numbers_of enc) after.decisions middle.accepted middle.flushed =
-    sym (take-length after.decisions) ∙ ap (λ (n : ℕ). take n after.decisions) (made-length before middle after last made ∙ all) in
-    made.same ∙ ap (λ (l : List Decision). let m : Moment T O = record middle { decisions = l } in m) whole
-
-pub made-unasked : {T O : Type 0} (before middle after : Moment T O) (last : ℕ) → Made before middle after last →
-    AreUnasked (drop (length before.decisions) after.decisions)
-made-unasked before middle after last made =
-    let from = length before.decisions + 1 in
-    let count = last - length before.decisions in
-    let new = ap (drop (length before.decisions)) made.decisions ∙ drop-append_seam before.decisions (sent_decisions middle from count) in
-    subst AreUnasked (sym new) (sent-unasked middle from count)
-
 -- ---- packets
 
 shown-is-coded-by : {T O : Type 0} (m : Moment T O) (first : Waiting T O) (entry : LogEntry) (command : Command) →
@@ -224,3 +62,28 @@ shown-is-coded-by {T} {O} m first entry (Show slot) is_first can =
 pub shown-is-coded : {T O : Type 0} (m : Moment T O) (first : Waiting T O) (entry : LogEntry) →
     slice_get m.waiting 0 ≡ Some first → CanCode m entry.command → IsSome (shown_coding entry first)
 shown-is-coded m first entry is_first can = shown-is-coded-by m first entry entry.command is_first can
+
+-- ---- a call of the coder that fails
+
+-- nothing was tried before
+pub coding-fails : {T O : Type 0} (enc : EncoderConfig) (moment : Moment T O) (command : Command) (gives : Option (Command → List ℕ)) (fails_after : Option (Option ℕ))
+    (told told_after : Option (List (Told T))) (before after : ℕ) (error : SessionError) →
+    held_back enc moment ≡ None → slice_get (plan_at enc moment) moment.commands ≡ Some command →
+    FailsCoding moment.commands fails_after told told_after before after error → Fails enc moment gives fails_after told told_after before after error
+coding-fails enc moment command gives fails_after told told_after before after (Invalid refusal) due next fails = fails
+coding-fails enc moment command gives fails_after told told_after before after (CoderFault number) due next fails = (
+  command,
+  [],
+  record {
+    due = due;
+    next = sym fails.0;
+    command_of = ap (slice_get (plan_at enc moment)) fails.0 ∙ next;
+  },
+  ([], refl),
+  fails.1,
+  given-none gives,
+  fails.2,
+  fails.3,
+)
+coding-fails enc moment command gives fails_after told told_after before after OutOfMemory due next fails = fails
+coding-fails enc moment command gives fails_after told told_after before after Unbuilt due next fails = fails

@@ -9,8 +9,9 @@ use Rattle.session_core.specs.declared.transcript.Decision.{Decision}
 use Rattle.session_core.specs.declared.transcript.LogEntry.{LogEntry}
 use Rattle.session_core.specs.declared.transcript.Turn.{Turn}
 use Rattle.session_core.specs.Moments.{Moment, plan_at}
+use Rattle.session_core.specs.Questions.{IsAsked}
 use Rattle.session_core.specs.Sessions.{AreTurns, AreKeyDecisions, IsTaken, moment_after, accepted_in, entries_of, commands_of}
-use Rattle.session_core.specs.Told.{Heard}
+use Rattle.session_core.specs.Told.{AreGiven, FailsBehind, Heard}
 use Rattle.session_core.specs.Turns.{BeginTrials, held_back}
 
 -- a receive at this moment codes the command of this number
@@ -31,8 +32,12 @@ pub record FailsAt {T O : Type 0} (enc : EncoderConfig) (calls : List (Call T O)
   pub answered : AreTurns enc decisions (take done calls) turns
   pub decided : decisions ≡ (moment_after enc decisions (take done calls) turns).decisions
   pub keys : AreKeyDecisions (accepted_in (take done calls) turns) decisions
+  pub asked : IsAsked enc (accepted_in (take done calls) turns) decisions before after
   pub due : Codes enc (moment_after enc decisions (take done calls) turns) number command
   pub coded : length (commands_of turns) ≡ number
   pub first : commands_of turns ≡ take number (plan_at enc (moment_after enc decisions (take done calls) turns))
   pub tried : BeginTrials enc (moment_after enc decisions (take done calls) turns) command trials
   pub taken : IsTaken (accepted_in (take done calls) turns) (entries_of turns ++ trials) before after
+  pub given : AreGiven before.gives (entries_of turns ++ trials)
+  -- where it tells its first failing call ahead, it is this one
+  pub reached : FailsBehind before.fails_after (length (entries_of turns ++ trials))

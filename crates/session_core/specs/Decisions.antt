@@ -1,5 +1,5 @@
 -- Which positions are decided, and which of them are keys.
-use Rattle.std.specs.Prelude.{◌≡◌, ℕ, ◌+◌, ◌-◌, Bool, if◌then◌else◌, ◌==◌, List, [], ◌∷◌, map, filter, take}
+use Rattle.std.specs.Prelude.{ℕ, ◌+◌, ◌-◌, Bool, if◌then◌else◌, ◌==◌, List, [], ◌∷◌, map, filter, take}
 use Rattle.pyramid.specs.Numbers.{Numbers, ahead}
 use Rattle.session_core.specs.declared.transcript.Decision.{Decision}
 
@@ -19,7 +19,3 @@ keys_of accepted decisions = if accepted == 0 then [] else 0 ∷ key_positions d
 -- the decisions of a moment: the first so many of a session's
 abbrev pub decisions_at : Numbers → List Decision → ℕ → Bool → List Decision
 decisions_at numbers decisions accepted flushed = take (decided_count numbers accepted flushed) decisions
-
--- nobody is asked: a decision's key is its frame's mark
-abbrev pub AreUnasked : List Decision → Type 0
-AreUnasked decisions = map (λ decision. decision.key) decisions ≡ map (λ decision. decision.forced) decisions

@@ -2,6 +2,7 @@ pub mod Answers
 pub mod Decisions
 pub mod Moments
 pub mod PacketText
+pub mod Questions
 pub mod Sessions
 pub mod States
 pub mod Told

@@ -1,5 +1,5 @@
 -- What a whole session promises.
-use Rattle.std.specs.Prelude.{◌≡◌, ℕ, ◌+◌, ◌-◌, ◌/◌, ◌≤◌, Bool, true, false, ◌==◌, IsTrue, if◌then◌else◌, List, [], ◌∷◌, ◌++◌, map, length, take, drop, Some}
+use Rattle.std.specs.Prelude.{◌≡◌, ℕ, ◌+◌, ◌-◌, ◌/◌, ◌≤◌, ◌⊎◌, Bool, true, false, ◌==◌, IsTrue, if◌then◌else◌, List, [], ◌∷◌, ◌++◌, map, length, take, drop, All, Some}
 use Rattle.std.specs.Option.{option_map, option_map_or, option_to_list}
 use Rattle.std.specs.List.{flat_map, range_with_len, slice_get, count_by}
 use Rattle.coding_base.specs.Runs.{Runs, after_calls}
@@ -18,9 +18,9 @@ use Rattle.session_core.specs.declared.transcript.Reply.{Reply}
 use Rattle.session_core.specs.declared.transcript.Reply.TheVariants.{Sent, Packet as GivesPacket}
 use Rattle.session_core.specs.declared.transcript.Transcript.{Transcript}
 use Rattle.session_core.specs.declared.transcript.Turn.{Turn}
-use Rattle.session_core.specs.Decisions.{AreUnasked}
 use Rattle.session_core.specs.Moments.{Accepted, Moment, opening, plan_at}
-use Rattle.session_core.specs.Told.{Told, Coded, Shown, Grew, Heard}
+use Rattle.session_core.specs.Questions.{IsAsked}
+use Rattle.session_core.specs.Told.{Told, Coded, Shown, AreBeforeFault, AreGiven, Grew, Heard}
 use Rattle.session_core.specs.Turns.{IsTurn, after_turn, accepted_of, real_entries, is_showing, delimiter}
 
 -- ---- a list of calls and its turns
@@ -71,7 +71,7 @@ pub record AreKeyDecisions {T O : Type 0} (sent : List (Accepted T O)) (decision
   pub positions : map (λ decision. decision.position) decisions ≡ range_with_len 1 (length decisions)
   pub forced : map (λ decision. decision.forced) decisions
       ≡ map (λ position. option_map_or (λ accepted. accepted.forced) (slice_get sent position) false) (range_with_len 1 (length decisions))
-  pub keys : AreUnasked decisions
+  pub keys : All (λ decision. IsTrue decision.forced → IsTrue decision.key) decisions
 
 -- ---- what the coder took
 
@@ -171,5 +171,24 @@ pub record IsSessionRun {T O : Type 0} (enc : EncoderConfig) (calls : List (Call
   -- the transcript gives the decisions made by its end, and no more
   pub decided : transcript.decisions ≡ (moment_after enc transcript.decisions calls transcript.turns).decisions
   pub keys : AreKeyDecisions (accepted_in calls transcript.turns) transcript.decisions
+  -- they are the detector's answers, but for the frames sent as key frames
+  pub asked : IsAsked enc (accepted_in calls transcript.turns) transcript.decisions before after
   pub headline : Headline enc transcript.decisions calls transcript.turns
   pub taken : IsTaken (accepted_in calls transcript.turns) (entries_of transcript.turns) before after
+  -- they are what the coder told ahead, and come before its first failing call
+  pub given : AreGiven before.gives (entries_of transcript.turns)
+  pub unreached : AreBeforeFault before.fails_after (length (entries_of transcript.turns))
+
+-- ---- schedules
+
+-- two runs accepted the same frames with the same parameters, and made the same decisions
+pub record IsSameInput {T O : Type 0} (calls : List (Call T O)) (transcript : Transcript T O) (others : List (Call T O)) (other : Transcript T O) : Type 0 where
+  pub frames : accepted_in others other.turns ≡ accepted_in calls transcript.turns
+  pub decisions : other.decisions ≡ transcript.decisions
+
+-- of two such runs, whatever their calls in between and flushed or not, the commands of the one begin those of the other
+abbrev pub KeepsSchedule : {T O : Type 0} → EncoderConfig → List (Call T O) → Transcript T O → Type 0
+KeepsSchedule {T} {O} enc calls transcript =
+    (others : List (Call T O)) (other : Transcript T O) (before after : Heard T) →
+    IsSessionRun enc others other before after → IsSameInput calls transcript others other →
+    IsPrefix (commands_of transcript.turns) (commands_of other.turns) ⊎ IsPrefix (commands_of other.turns) (commands_of transcript.turns)

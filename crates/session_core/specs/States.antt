@@ -1,9 +1,10 @@
 -- The state of a session as a moment, and what each step of it knows and leaves.
-use Rattle.std.specs.Prelude.{◌≡◌, ℕ, ◌+◌, ◌≤◌, ◌<◌, false, List, [], ◌∷◌, map, length, IsSome, Option, Some, None}
+use Rattle.std.specs.Prelude.{◌≡◌, ℕ, ◌+◌, ◌≤◌, ◌<◌, Bool, false, List, [], ◌∷◌, ◌++◌, map, length, IsSome, Option, Some, None}
 use Rattle.std.specs.Option.{option_map, option_and_then, option_to_list}
 use Rattle.std.specs.List.{flat_map, range_with_len, slice_get}
 use Rattle.coding_base.specs.Faults.{Rose}
 use Rattle.av1_settings.specs.declared.encoder.EncoderConfig.{EncoderConfig}
+use Rattle.av1_settings.specs.declared.speed.SceneDetectionSpeed.{SceneDetectionSpeed}
 use Rattle.pyramid.specs.declared.command.Command.{Command}
 use Rattle.pyramid.specs.declared.command.Command.TheVariants.{Code, Show}
 use Rattle.pyramid.specs.Settings.{numbers_of}
@@ -16,8 +17,9 @@ use Rattle.session_core.specs.declared.transcript.LogEntry.{LogEntry}
 use Rattle.session_core.specs.Answers.{Codes}
 use Rattle.session_core.specs.Decisions.{decided_count, keys_of}
 use Rattle.session_core.specs.Moments.{Waiting, Moment, waiting_at, plan_at}
-use Rattle.session_core.specs.Told.{Told, Coded, Shown, Grew, OnlyGrew}
-use Rattle.session_core.specs.Turns.{BeginTrials, forced_at, frame_limit, held_back}
+use Rattle.session_core.specs.Questions.{AreAnswered, frames_from, question}
+use Rattle.session_core.specs.Told.{Asked, Told, Coded, Shown, AreGiven, FailsBehind, Grew, OnlyGrew}
+use Rattle.session_core.specs.Turns.{AreMade, BeginTrials, frame_limit, held_back}
 
 abbrev pub waiting_of : {T O : Type 0} → WaitingFrame T O → Waiting T O
 waiting_of one = record {
@@ -40,14 +42,21 @@ moment_of state = record {
 abbrev pub KeepsKeys : {T O : Type 0} → SessionState T O → Type 0
 KeepsKeys state = state.keys.items ≡ keys_of state.accepted state.decisions.items
 
--- the decision on a position where nobody but the sender decides
-abbrev pub sent_decision : {T O : Type 0} → Moment T O → ℕ → Decision
-sent_decision moment number =
-    record { position = number; forced = forced_at moment number; key = forced_at moment number }
+-- the decisions are those of the positions from 1 on, in order
+abbrev pub AreInOrder : List Decision → Type 0
+AreInOrder decisions = map (λ decision. decision.position) decisions ≡ range_with_len 1 (length decisions)
 
--- those on so many positions from `from` on
-abbrev pub sent_decisions : {T O : Type 0} → Moment T O → ℕ → ℕ → List Decision
-sent_decisions moment from count = map (sent_decision moment) (range_with_len from count)
+-- the positions up to `last` that weren't decided are decided now, and nothing else changed; of each the detector was asked
+-- whose frame wasn't sent as a key frame
+pub record Decided {T O : Type 0} (mode : SceneDetectionSpeed) (before after : SessionState T O) (told told_after : Option (List (Asked T))) (answers : Option (ℕ → Bool)) (last : ℕ) : Type 0 where
+  pub others : after ≡ record before { decisions = after.decisions; keys = after.keys }
+  pub made : List Decision
+  pub decisions : after.decisions.items ≡ before.decisions.items ++ made
+  pub count : length after.decisions.items ≡ last
+  pub are : AreMade (moment_of before) (length before.decisions.items + 1) made
+  pub keys : KeepsKeys after
+  pub grew : Grew told told_after (flat_map (question mode (frames_from (moment_of before)) after.decisions.items) made)
+  pub ahead : AreAnswered answers made
 
 -- a coder can be given a command: the frame that it codes waits, or the first frame that waits is coded
 abbrev pub CanCode : {T O : Type 0} → Moment T O → Command → Type 0
@@ -59,6 +68,7 @@ pub record IsReady {T O : Type 0} (enc : EncoderConfig) (moment : Moment T O) : 
   pub few : moment.accepted ≤ frame_limit
   pub waits : moment.packets + length moment.waiting ≡ moment.accepted
   pub decided : length moment.decisions ≡ decided_count (numbers_of enc) moment.accepted moment.flushed
+  pub in_order : AreInOrder moment.decisions
   -- the lookahead keeps the frame before the next undecided position
   pub late : moment.flushed ≡ false → moment.packets ≤ length moment.decisions
   -- where a receive is to code, the next command is there, and can be coded
@@ -81,19 +91,20 @@ told_at moment entry =
     ]
 
 -- a call of the coder failed: its count rose and it told nothing, or memory ran out
-abbrev pub FailsCoding : {T : Type 0} → ℕ → Option (List (Told T)) → Option (List (Told T)) → ℕ → ℕ → SessionError → Type 0
-FailsCoding commands told_before told_after before after (Invalid refusal) = ⊥
-FailsCoding commands told_before told_after before after (CoderFault number) =
-    (number ≡ commands) × Grew told_before told_after [] × Rose before after
-FailsCoding commands told_before told_after before after OutOfMemory = OnlyGrew told_before told_after
-FailsCoding commands told_before told_after before after Unbuilt = ⊥
+abbrev pub FailsCoding : {T : Type 0} → ℕ → Option (Option ℕ) → Option (List (Told T)) → Option (List (Told T)) → ℕ → ℕ → SessionError → Type 0
+FailsCoding commands fails_after told_before told_after before after (Invalid refusal) = ⊥
+FailsCoding commands fails_after told_before told_after before after (CoderFault number) =
+    (number ≡ commands) × Grew told_before told_after [] × FailsBehind fails_after 0 × Rose before after
+FailsCoding commands fails_after told_before told_after before after OutOfMemory = OnlyGrew told_before told_after
+FailsCoding commands fails_after told_before told_after before after Unbuilt = ⊥
 
 -- a call failed: in a receive the coder's count rose, and it told what was tried; or memory ran out, and what is told only
 -- grew
-abbrev pub Fails : {T O : Type 0} → EncoderConfig → Moment T O → Option (List (Told T)) → Option (List (Told T)) → ℕ → ℕ → SessionError → Type 0
-Fails enc moment told_before told_after before after (Invalid refusal) = ⊥
-Fails enc moment told_before told_after before after (CoderFault number) =
+abbrev pub Fails : {T O : Type 0} → EncoderConfig → Moment T O → Option (Command → List ℕ) → Option (Option ℕ) → Option (List (Told T)) → Option (List (Told T)) → ℕ → ℕ → SessionError → Type 0
+Fails enc moment gives fails_after told_before told_after before after (Invalid refusal) = ⊥
+Fails enc moment gives fails_after told_before told_after before after (CoderFault number) =
     (command : Command) × (trials : List LogEntry) × Codes enc moment number command × BeginTrials enc moment command trials
-    × Grew told_before told_after (flat_map (told_at moment) trials) × Rose before after
-Fails enc moment told_before told_after before after OutOfMemory = OnlyGrew told_before told_after
-Fails enc moment told_before told_after before after Unbuilt = ⊥
+    × Grew told_before told_after (flat_map (told_at moment) trials) × AreGiven gives trials × FailsBehind fails_after (length trials)
+    × Rose before after
+Fails enc moment gives fails_after told_before told_after before after OutOfMemory = OnlyGrew told_before told_after
+Fails enc moment gives fails_after told_before told_after before after Unbuilt = ⊥

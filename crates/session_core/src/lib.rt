@@ -3,6 +3,8 @@
 
 mod call;
 mod coder;
+mod decisions;
+mod detector;
 mod packet;
 mod session;
 mod state;
@@ -12,6 +14,7 @@ mod transcript;
 
 pub use call::{Call, FrameParameters, FrameTypeOverride};
 pub use coder::{CodeJob, CodedFrame, CoderError, FrameCoder, ShownFrame};
+pub use detector::{Detector, NoDetector};
 pub use packet::Packet;
 pub use session::{SessionError, run_session};
 pub use transcript::{

@@ -4,11 +4,11 @@ ghost use Rattle.av1_settings.specs.declared.invalid.InvalidConfig.{InvalidConfi
 ghost use Rattle.av1_settings.specs.Checks.{session_refusal};
 ghost use Rattle.session_core.specs.declared.session.SessionError.TheVariants.{Invalid, CoderFault, Unbuilt};
 ghost use Rattle.session_core.specs.Answers.{FailsAt};
-ghost use Rattle.session_core.specs.Sessions.{IsSessionRun};
+ghost use Rattle.session_core.specs.Sessions.{IsSessionRun, KeepsSchedule};
 ghost use Rattle.session_core.specs.Told.{OnlyGrew};
 
 use crate::state::SessionState;
-use crate::{Call, DecisionList, FrameCoder, Transcript, TurnList};
+use crate::{Call, DecisionList, Detector, FrameCoder, Transcript, TurnList};
 use av1_frame::Pixel;
 use av1_settings::{Config, InvalidConfig, LevelTables};
 use coding_base::OutOfMemory;
@@ -69,22 +69,41 @@ impl<T: Drop> From<AllocFailed<T>> for SessionError {
 }
 
 /// Carries out a list of calls in order, has the coder code what their plan asks for, and says of each call what it answered
-/// and coded. The plan is that of the frames accepted and the keys decided so far (docs/RULES.md). `levels` has the limits of
-/// the AV1 specification's levels, against which the configuration is checked.
+/// and coded. The plan is that of the frames accepted and the keys decided so far (docs/RULES.md). `detector` is asked once of
+/// each frame that is decided and wasn't sent as a key frame. `levels` has the limits of the AV1 specification's levels,
+/// against which the configuration is checked.
 ///
 /// The errors are `Invalid`, with the configuration's first refusal, one of which is a bit depth above the pixel type's;
-/// `Unbuilt` where a bitrate is asked for; `CoderFault` where the coder failed; `OutOfMemory`.
-pub fn run_session<T: Pixel, O: Drop, C: FrameCoder<T>>(
+/// `Unbuilt` where a bitrate is asked for; `CoderFault` where the coder failed; `OutOfMemory`, also where the detector found
+/// no memory.
+pub fn run_session<T: Pixel, O: Drop, D: Detector<T>, C: FrameCoder<T>>(
     alloc: Global,
     cfg: &Config,
     levels: &LevelTables,
+    detector: &mut D,
     coder: &mut C,
     calls: Vec<Call<T, O>>,
 ) -> Result<Transcript<T, O>, SessionError>
     // The headline, and what stands beside it.
     ensures session { IfOk result (λ t.
-        IsSessionRun cfg.now.enc calls.items t (record { coder = C.told coder.old })
-        (record { coder = C.told coder.new })) }
+        IsSessionRun cfg.now.enc calls.items t
+        (record {
+          coder = C.told coder.old;
+          gives = C.gives coder.old;
+          fails_after = C.fails_after coder.old;
+          detector = D.told detector.old;
+          answers = D.answers detector.old;
+        })
+        (record {
+          coder = C.told coder.new;
+          gives = C.gives coder.new;
+          fails_after = C.fails_after coder.new;
+          detector = D.told detector.new;
+          answers = D.answers detector.new;
+        })) }
+
+    // Other calls between the same frames, with the same decisions, give the same commands as far as both go.
+    ensures schedules { IfOk result (λ t. KeepsSchedule cfg.now.enc calls.items t) }
 
     // When each error comes.
     ensures invalid { (v : InvalidConfig)
@@ -100,8 +119,21 @@ pub fn run_session<T: Pixel, O: Drop, C: FrameCoder<T>>(
         → result ≡ Err Unbuilt }
     ensures fault { (command : ℕ)
         → result ≡ Err (CoderFault command)
-        → FailsAt cfg.now.enc calls.items (record { coder = C.told coder.old })
-        (record { coder = C.told coder.new }) command }
+        → FailsAt cfg.now.enc calls.items
+        (record {
+          coder = C.told coder.old;
+          gives = C.gives coder.old;
+          fails_after = C.fails_after coder.old;
+          detector = D.told detector.old;
+          answers = D.answers detector.old;
+        })
+        (record {
+          coder = C.told coder.new;
+          gives = C.gives coder.new;
+          fails_after = C.fails_after coder.new;
+          detector = D.told detector.new;
+          answers = D.answers detector.new;
+        }) command }
     ensures fault_cause { (command : ℕ)
         → result ≡ Err (CoderFault command)
         → Rose (C.faults coder.old) (C.faults coder.new) }
@@ -110,13 +142,18 @@ pub fn run_session<T: Pixel, O: Drop, C: FrameCoder<T>>(
         → ¬ Rose (C.faults coder.old) (C.faults coder.new)
         → IsOk result ⊎ (result ≡ Err SessionError.OutOfMemory) }
 
-    // The coder's count doesn't fall, and what it tells only grows; it isn't called where the session doesn't begin.
+    // The coder's count doesn't fall, what coder and detector tell only grows, and what they tell ahead stays; neither is
+    // called where the session doesn't begin.
     ensures later { C.faults coder.old ≤ C.faults coder.new }
     ensures kept { OnlyGrew (C.told coder.old) (C.told coder.new) }
+    ensures same_gives { C.gives coder.new ≡ C.gives coder.old }
+    ensures kept_questions { OnlyGrew (D.told detector.old) (D.told detector.new) }
+    ensures same_answers { D.answers detector.new ≡ D.answers detector.old }
     ensures untouched { (v : InvalidConfig)
         → session_refusal T.BITS levels.now cfg.now ≡ Some v
-        → coder.new ≡ coder.old }
-    ensures unstarted { result ≡ Err Unbuilt → coder.new ≡ coder.old }
+        → (coder.new ≡ coder.old) × (detector.new ≡ detector.old) }
+    ensures unstarted { result ≡ Err Unbuilt
+        → (coder.new ≡ coder.old) × (detector.new ≡ detector.old) }
 {
     if let Err(refusal) = cfg.validate_for_session(levels, T::BITS) {
         return Err(SessionError::Invalid(refusal));
@@ -127,7 +164,7 @@ pub fn run_session<T: Pixel, O: Drop, C: FrameCoder<T>>(
     let mut state = SessionState::new(alloc);
     let mut turns = Vec::new(alloc);
     for call in calls {
-        match state.turn(alloc, &cfg.enc, coder, call) {
+        match state.turn(alloc, &cfg.enc, detector, coder, call) {
             Ok(turn) => turns.push(turn)?,
             Err(error) => return Err(error),
         }

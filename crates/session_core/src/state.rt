@@ -5,15 +5,15 @@ ghost use Rattle.std.specs.Option.{option_map};
 ghost use Rattle.session_core.specs.declared.call.Call.TheVariants.{Receive};
 ghost use Rattle.session_core.specs.declared.session.SessionError.TheVariants.{CoderFault};
 ghost use Rattle.session_core.specs.declared.transcript.Reply.TheVariants.{Flushed, Status};
-ghost use Rattle.session_core.specs.Decisions.{AreUnasked};
 ghost use Rattle.session_core.specs.Moments.{opening, is_complete, plan_at};
-ghost use Rattle.session_core.specs.States.{waiting_of, moment_of, told_at, sent_decisions, CanCode, Fails, FailsCoding, IsReady, KeepsKeys};
-ghost use Rattle.session_core.specs.Told.{Grew};
+ghost use Rattle.session_core.specs.Questions.{IsAskedIn};
+ghost use Rattle.session_core.specs.States.{waiting_of, moment_of, told_at, CanCode, Fails, FailsCoding, IsReady, KeepsKeys};
+ghost use Rattle.session_core.specs.Told.{AreGiven, Counts, Grew, OnlyGrew};
 ghost use Rattle.session_core.specs.Turns.{Decides, IsNextPacket, IsReceived, IsTurn, accepted_of, after_flush, after_receive, after_send, after_turn, frame_limit, has_enough, held_back, is_showing, needs_more_data, noted, sent_reply, shown_coding};
 
 use crate::{
-    Call, CodeJob, CoderError, Decision, FrameCoder, FrameParameters, FrameTypeOverride, LogEntry,
-    LogList, Packet, Reply, SessionError, Turn,
+    Call, CodeJob, CoderError, Decision, Detector, FrameCoder, FrameParameters, FrameTypeOverride,
+    LogEntry, LogList, Packet, Reply, SessionError, Turn,
 };
 use av1_frame::Frame;
 use av1_settings::{EncoderConfig, EncoderStatus, FrameType};
@@ -81,10 +81,11 @@ impl<T, O> SessionState<T, O> {
 
 impl<T: Drop, O: Drop> SessionState<T, O> {
     /// What one call answers and codes.
-    pub(crate) fn turn<C: FrameCoder<T>>(
+    pub(crate) fn turn<D: Detector<T>, C: FrameCoder<T>>(
         &mut self,
         alloc: Global,
         enc: &EncoderConfig,
+        detector: &mut D,
         coder: &mut C,
         call: Call<T, O>,
     ) -> Result<Turn<T, O>, SessionError>
@@ -95,22 +96,31 @@ impl<T: Drop, O: Drop> SessionState<T, O> {
         ensures after { IfOk result (λ turn.
             moment_of self.new
             ≡ after_turn enc.now self.new.decisions.items (moment_of self.old) call turn) }
-        ensures unasked { OnOk result (
-            AreUnasked (drop (length self.old.decisions.items) self.new.decisions.items)) }
         ensures keys { OnOk result (KeepsKeys self.new) }
         ensures told { IfOk result (λ turn.
             Grew (C.told coder.old) (C.told coder.new)
             (flat_map (told_at (moment_of self.old)) turn.log)) }
         ensures failed { IfErr result (λ error.
-            Fails enc.now (moment_of self.old) (C.told coder.old) (C.told coder.new)
-            (C.faults coder.old) (C.faults coder.new) error) }
+            Fails enc.now (moment_of self.old) (C.gives coder.old) (C.fails_after coder.old)
+            (C.told coder.old) (C.told coder.new) (C.faults coder.old) (C.faults coder.new)
+            error) }
+        ensures given { IfOk result (λ turn. AreGiven (C.gives coder.old) turn.log) }
+        ensures counted { IfOk result (λ turn.
+            Counts (C.fails_after coder.old) (C.fails_after coder.new) (length turn.log)) }
+        ensures same_gives { C.gives coder.new ≡ C.gives coder.old }
         ensures receives { IfErr result
             (λ error. (error ≡ SessionError.OutOfMemory → ⊥) → call ≡ Receive) }
+        ensures asked { OnOk result (IsAskedIn enc.now (moment_of self.old)
+            (moment_of self.new) (D.told detector.old) (D.told detector.new)
+            (D.answers detector.old)) }
+        ensures grew { OnlyGrew (D.told detector.old) (D.told detector.new) }
+        ensures same_answers { D.answers detector.new ≡ D.answers detector.old }
+        ensures silent { call ≡ Receive → detector.new ≡ detector.old }
         ensures later { C.faults coder.old ≤ C.faults coder.new }
     {
         let reply = match call {
-            Call::Send(frame, parameters) => self.send(enc, frame, parameters)?,
-            Call::Flush => self.flush(enc)?,
+            Call::Send(frame, parameters) => self.send(alloc, enc, detector, frame, parameters)?,
+            Call::Flush => self.flush(alloc, enc, detector)?,
             Call::Receive => return self.receive(alloc, enc, coder),
         };
         Ok(Turn {
@@ -120,9 +130,11 @@ impl<T: Drop, O: Drop> SessionState<T, O> {
     }
 
     // Accepts a frame, and decides the position that has enough frames behind it now.
-    fn send(
+    fn send<D: Detector<T>>(
         &mut self,
+        alloc: Global,
         enc: &EncoderConfig,
+        detector: &mut D,
         frame: Arc<Frame<T>>,
         parameters: Option<FrameParameters<O>>,
     ) -> Result<Reply<T, O>, OutOfMemory>
@@ -135,9 +147,12 @@ impl<T: Drop, O: Drop> SessionState<T, O> {
             ≡ after_send enc.now self.new.decisions.items (moment_of self.old)
             (accepted_of frame.value parameters) reply) }
         ensures decides { OnOk result (Decides enc.now (moment_of self.old) (moment_of self.new)) }
-        ensures unasked { OnOk result (
-            AreUnasked (drop (length self.old.decisions.items) self.new.decisions.items)) }
         ensures keys { OnOk result (KeepsKeys self.new) }
+        ensures asked { OnOk result (IsAskedIn enc.now (moment_of self.old)
+            (moment_of self.new) (D.told detector.old) (D.told detector.new)
+            (D.answers detector.old)) }
+        ensures grew { OnlyGrew (D.told detector.old) (D.told detector.new) }
+        ensures same_answers { D.answers detector.new ≡ D.answers detector.old }
     {
         if self.has_enough(enc) {
             return Ok(Reply::Status(EncoderStatus::EnoughData));
@@ -151,9 +166,14 @@ impl<T: Drop, O: Drop> SessionState<T, O> {
             self.keys.push(0)?;
         }
         self.accepted = number + 1;
+        let last = self
+            .accepted
+            .saturating_sub(InterConfig::new(enc).ahead() + 1);
         self.decide(
-            self.accepted
-                .saturating_sub(InterConfig::new(enc).ahead() + 1),
+            alloc,
+            enc.speed_settings.scene_detection_mode,
+            detector,
+            last,
         )?;
         Ok(Reply::Sent(number))
     }
@@ -166,7 +186,12 @@ impl<T: Drop, O: Drop> SessionState<T, O> {
     }
 
     // Takes no further frame, and decides all positions that are left.
-    fn flush(&mut self, enc: &EncoderConfig) -> Result<Reply<T, O>, OutOfMemory>
+    fn flush<D: Detector<T>>(
+        &mut self,
+        alloc: Global,
+        enc: &EncoderConfig,
+        detector: &mut D,
+    ) -> Result<Reply<T, O>, OutOfMemory>
         requires ready { IsReady enc.now (moment_of self.old) }
         requires keys { KeepsKeys self.old }
         ensures reply { IfOk result (λ reply. reply ≡ Flushed) }
@@ -174,46 +199,22 @@ impl<T: Drop, O: Drop> SessionState<T, O> {
             moment_of self.new
             ≡ after_flush enc.now self.new.decisions.items (moment_of self.old)) }
         ensures decides { OnOk result (Decides enc.now (moment_of self.old) (moment_of self.new)) }
-        ensures unasked { OnOk result (
-            AreUnasked (drop (length self.old.decisions.items) self.new.decisions.items)) }
         ensures keys { OnOk result (KeepsKeys self.new) }
+        ensures asked { OnOk result (IsAskedIn enc.now (moment_of self.old)
+            (moment_of self.new) (D.told detector.old) (D.told detector.new)
+            (D.answers detector.old)) }
+        ensures grew { OnlyGrew (D.told detector.old) (D.told detector.new) }
+        ensures same_answers { D.answers detector.new ≡ D.answers detector.old }
     {
         self.flushed = true;
-        self.decide(self.accepted.saturating_sub(1))?;
+        let last = self.accepted.saturating_sub(1);
+        self.decide(
+            alloc,
+            enc.speed_settings.scene_detection_mode,
+            detector,
+            last,
+        )?;
         Ok(Reply::Flushed)
-    }
-
-    // Decides the positions up to `last` that aren't decided yet: those that are forced are keys.
-    fn decide(&mut self, last: u64) -> Result<(), OutOfMemory>
-        requires few { self.old.accepted ≤ frame_limit }
-        requires waits { self.old.packets + length self.old.waiting.items ≡ self.old.accepted }
-        requires late { length self.old.decisions.items < last
-            → self.old.packets ≤ length self.old.decisions.items }
-        requires more { length self.old.decisions.items ≤ last }
-        requires within { last ≤ self.old.accepted - 1 }
-        requires keys { KeepsKeys self.old }
-        ensures decisions { OnOk result (
-            self.new.decisions.items
-            ≡ self.old.decisions.items ++ sent_decisions (moment_of self.old)
-            (length self.old.decisions.items + 1)
-            (last - length self.old.decisions.items)) }
-        ensures same { OnOk result (
-            moment_of self.new
-            ≡ record (moment_of self.old) { decisions = self.new.decisions.items }) }
-        ensures keys { OnOk result (KeepsKeys self.new) }
-    {
-        for position in self.decisions.len() as u64 + 1..last + 1 {
-            let forced = self.waiting[(position - self.packets) as usize].forced;
-            self.decisions.push(Decision {
-                position,
-                forced,
-                key: forced,
-            })?;
-            if forced {
-                self.keys.push(position)?;
-            }
-        }
-        Ok(())
     }
 
     // Has the coder carry out the plan's next command, if it is known, and answers it.
@@ -235,15 +236,23 @@ impl<T: Drop, O: Drop> SessionState<T, O> {
             Grew (C.told coder.old) (C.told coder.new)
             (flat_map (told_at (moment_of self.old)) turn.log)) }
         ensures failed { IfErr result (λ error.
-            Fails enc.now (moment_of self.old) (C.told coder.old) (C.told coder.new)
-            (C.faults coder.old) (C.faults coder.new) error) }
+            Fails enc.now (moment_of self.old) (C.gives coder.old) (C.fails_after coder.old)
+            (C.told coder.old) (C.told coder.new) (C.faults coder.old) (C.faults coder.new)
+            error) }
+        ensures given { IfOk result (λ turn. AreGiven (C.gives coder.old) turn.log) }
+        ensures counted { IfOk result (λ turn.
+            Counts (C.fails_after coder.old) (C.fails_after coder.new) (length turn.log)) }
+        ensures same_gives { C.gives coder.new ≡ C.gives coder.old }
         ensures later { C.faults coder.old ≤ C.faults coder.new }
     {
         if let Some(reason) = self.held_back(enc) {
             return Ok(status(alloc, reason));
         }
         let command = self.next_command(alloc, enc)?;
-        let entry = self.code(alloc, coder, command)?;
+        let entry = match self.code(alloc, coder, command) {
+            Ok(entry) => entry,
+            Err(error) => return Err(error),
+        };
         let reply = self.answer(alloc, &entry)?;
         let mut log = LogList::new(alloc);
         log.push(entry)?;
@@ -323,8 +332,12 @@ impl<T: Drop, O: Drop> SessionState<T, O> {
         ensures told { IfOk result (λ entry.
             Grew (C.told coder.old) (C.told coder.new) (told_at (moment_of self.now) entry)) }
         ensures failed { IfErr result (λ error.
-            FailsCoding self.now.commands (C.told coder.old) (C.told coder.new)
-            (C.faults coder.old) (C.faults coder.new) error) }
+            FailsCoding self.now.commands (C.fails_after coder.old) (C.told coder.old)
+            (C.told coder.new) (C.faults coder.old) (C.faults coder.new) error) }
+        ensures given { IfOk result (λ entry. AreGiven (C.gives coder.old) (entry ∷ [])) }
+        ensures counted { OnOk result
+            (Counts (C.fails_after coder.old) (C.fails_after coder.new) 1) }
+        ensures same_gives { C.gives coder.new ≡ C.gives coder.old }
         ensures later { C.faults coder.old ≤ C.faults coder.new }
     {
         let bytes = match command {

@@ -7,8 +7,9 @@ use super::*;
 use av1_frame::{ChromaSampling, Frame};
 use av1_settings::{
     Config, EncoderConfig, EncoderStatus, FrameType, InvalidConfig, LevelRow, LevelTables,
+    SceneDetectionSpeed,
 };
-use coding_base::Bytes;
+use coding_base::{Bytes, OutOfMemory};
 use pyramid::Command;
 use std::alloc::Global;
 use std::sync::Arc;
@@ -53,6 +54,10 @@ impl SizedCoder {
 impl FrameCoder<u16> for SizedCoder {
     ghost told = { λ _. None };
 
+    ghost gives = { λ _. None };
+
+    ghost fails_after = { λ _. None };
+
     ghost faults = { λ coder. coder.faults };
 
     fn code(&mut self, alloc: Global, job: &CodeJob<u16>) -> Result<CodedFrame, CoderError> {
@@ -79,6 +84,46 @@ impl FrameCoder<u16> for SizedCoder {
 
     fn faults(&self) -> u64 {
         self.faults
+    }
+}
+
+/// Finds scenes at two positions, finds no memory from its question number `fails` on, and notes of each answer the
+/// position, the last key, the number of frames and the mode.
+#[derive(Drop)]
+struct NotingDetector {
+    cuts: [u64; 2],
+    fails: usize,
+    notes: Vec<(u64, u64, usize, SceneDetectionSpeed)>,
+}
+
+impl NotingDetector {
+    fn new(alloc: Global, cuts: [u64; 2], fails: usize) -> NotingDetector {
+        NotingDetector {
+            cuts,
+            fails,
+            notes: Vec::new(alloc),
+        }
+    }
+}
+
+impl Detector<u16> for NotingDetector {
+    ghost told = { λ _. None };
+
+    ghost answers = { λ _. None };
+
+    fn ask(
+        &mut self,
+        _alloc: Global,
+        mode: SceneDetectionSpeed,
+        frames: &[Arc<Frame<u16>>],
+        position: u64,
+        last_key: u64,
+    ) -> Result<bool, OutOfMemory> {
+        if self.notes.len() >= self.fails {
+            return Err(OutOfMemory);
+        }
+        self.notes.push((position, last_key, frames.len(), mode))?;
+        Ok(position == self.cuts[0] || position == self.cuts[1])
     }
 }
 
@@ -109,8 +154,18 @@ fn run(
     coder: &mut SizedCoder,
     calls: Vec<Call<u16, u64>>,
 ) -> Result<Transcript<u16, u64>, SessionError> {
+    run_with(alloc, enc, &mut NoDetector, coder, calls)
+}
+
+fn run_with<D: Detector<u16>>(
+    alloc: Global,
+    enc: EncoderConfig,
+    detector: &mut D,
+    coder: &mut SizedCoder,
+    calls: Vec<Call<u16, u64>>,
+) -> Result<Transcript<u16, u64>, SessionError> {
     let cfg = Config::new().with_encoder_config(enc);
-    run_session(alloc, &cfg, &no_levels(), coder, calls)
+    run_session(alloc, &cfg, &no_levels(), detector, coder, calls)
 }
 
 // In each round so many sends and then so many receives; then a flush, and receives.
@@ -236,6 +291,93 @@ fn a_key_sent_at_the_edge_of_what_is_decided(rt: HostRuntime) -> Result<(), Fail
         undecided.as_slice(),
         [102, 1, 1, 62, 0, 5, 22, 5, 102, 1, 1, 62, 5, 22, 5, 22, 2].as_slice()
     );
+    Ok(())
+}
+
+// The positions asked of, with the last key and the number of frames.
+fn questions(
+    alloc: Global,
+    enc: EncoderConfig,
+    cuts: [u64; 2],
+    forced: u64,
+    rounds: &[(u64, u64)],
+) -> Result<Vec<(u64, u64, usize)>, SessionError> {
+    let mut detector = NotingDetector::new(alloc, cuts, 99);
+    let calls = calls_of(alloc, forced, rounds, 2)?;
+    run_with(alloc, enc, &mut detector, &mut SizedCoder::new(99), calls)?;
+    let mut asked = Vec::new(alloc);
+    for (position, last_key, frames, mode) in &detector.notes {
+        if *mode == enc.speed_settings.scene_detection_mode {
+            asked.push((*position, *last_key, *frames))?;
+        }
+    }
+    Ok(asked)
+}
+
+#[test]
+fn the_detector_is_asked_once_of_each_position(rt: HostRuntime) -> Result<(), Fail> {
+    let alloc = rt.alloc();
+
+    // Positions 1 to 3 are decided in the sends of frames 7 to 9, 3 being sent as a key; the flush decides the others.
+    let asked = questions(
+        alloc,
+        settings(100, 1),
+        [2, 7],
+        3,
+        &[(8, 1), (1, 1), (1, 1)],
+    )?;
+    let wanted: [(u64, u64, usize); 8] = [
+        (1, 0, 8),
+        (2, 0, 8),
+        (4, 3, 7),
+        (5, 3, 6),
+        (6, 3, 5),
+        (7, 3, 4),
+        (8, 7, 3),
+        (9, 7, 2),
+    ];
+    assert_eq!(rt; asked.as_slice(), wanted.as_slice());
+
+    // A GOP that the interval begins is no decided key; at depth 0 three frames are kept behind a position.
+    let mut enc = settings(2, 1);
+    enc.low_latency = true;
+    enc.speed_settings.scene_detection_mode = SceneDetectionSpeed::Fast;
+    let low = questions(alloc, enc, [4, 4], 0, &[(6, 1)])?;
+    let wanted: [(u64, u64, usize); 5] = [(1, 0, 5), (2, 0, 5), (3, 0, 4), (4, 0, 3), (5, 4, 2)];
+    assert_eq!(rt; low.as_slice(), wanted.as_slice());
+    let none = questions(alloc, settings(100, 1), [1, 1], 0, &[(1, 0)])?;
+    assert_eq!(rt; none.len(), 0);
+    Ok(())
+}
+
+#[test]
+fn a_scene_begins_a_gop(rt: HostRuntime) -> Result<(), Fail> {
+    let alloc = rt.alloc();
+    let mut detector = NotingDetector::new(alloc, [3, 0], 99);
+    let mut coder = SizedCoder::new(99);
+    let calls = calls_of(alloc, 0, &[(5, 0)], 6)?;
+    let transcript = run_with(alloc, settings(100, 1), &mut detector, &mut coder, calls)?;
+    let sizes = received(alloc, &transcript)?;
+    assert_eq!(rt; sizes.as_slice(), [102, 1, 42, 5, 102, 22].as_slice());
+    let mut keys = Vec::new(alloc);
+    for decision in transcript.decisions.as_slice() {
+        keys.push(decision.key)?;
+    }
+    assert_eq!(rt; keys.as_slice(), [false, false, true, false].as_slice());
+    Ok(())
+}
+
+#[test]
+fn a_detector_without_memory_ends_the_session(rt: HostRuntime) -> Result<(), Fail> {
+    let alloc = rt.alloc();
+    let mut detector = NotingDetector::new(alloc, [0, 0], 2);
+    let mut coder = SizedCoder::new(99);
+    let calls = calls_of(alloc, 0, &[(8, 1), (2, 1)], 9)?;
+    match run_with(alloc, settings(100, 1), &mut detector, &mut coder, calls) {
+        Err(error) => assert_eq!(rt; error, SessionError::OutOfMemory),
+        Ok(_) => assert!(rt; false, "it was answered"),
+    }
+    assert_eq!(rt; detector.notes.len(), 2);
     Ok(())
 }
 

@@ -1,8 +1,11 @@
 use Rattle.std.proofs.Common.{rules, ◌≡◌, ◌++◌, ◌∷◌, [], Result, Err, inr, ap, sym, subst, ◌∙◌, append_assoc, append-nil, arith}
 use Rattle.std.proofs.lemmas.Int.{ints}
 use Rattle.std.proofs.lemmas.List.{nil_from_length}
-use Rattle.session_core.proofs.CallLoop.{Carried, Stops, carried-opening, carried-step, carried-ready, carried-grew, carried-more, carried-session, carried-stop}
+use Rattle.session_core.specs.Sessions.{IsSessionRun}
+use Rattle.session_core.proofs.CallLoop.{Carried, Stops, carried-opening, carried-step, carried-ready, carried-grew, carried-asked, carried-session, session-schedule, carried-stop}
+use Rattle.session_core.proofs.Telling.{only-then}
 use Rattle.session_core.proofs.session.run_session.Given as given
+use Rattle.session_core.proofs.session.run_session.Invariants.{heard}
 use Rattle.session_core.proofs.session.run_session.Goals as goal
 
 pub returns-then-cfg-gt0-clause-complete : goal.returns-then-cfg-gt0-clause-complete
@@ -12,7 +15,7 @@ pub loop-call-init : goal.loop-call-init
 loop-call-init g c = (
   tt,
   tt,
-  carried-opening c.args.cfg.now.enc c.new-turns.result.items c.new-state.result (g.C.FrameCoder.told c.args.coder.now) c.new-turns.ensures.items c.new-state.ensures.moment c.new-state.ensures.keys,
+  carried-opening c.args.cfg.now.enc c.new-turns.result.items c.new-state.result (heard g c.args.coder.now c.args.detector.now) c.new-turns.ensures.items c.new-state.ensures.moment c.new-state.ensures.keys,
   omega arith,
   c.into_iter-call-iterator.ensures.into_iter_gives.0,
 )
@@ -27,8 +30,10 @@ loop-call-preserved g c =
     ∙ ap (λ rest. c.loop-call.yielded ++ rest) (sym c.in-Some.ensures.steps.0) ∙ c.loop-call.invariant.4 in (
       tt,
       tt,
-      carried-step c.args.cfg.now.enc c.loop-call.yielded c.loop-call.turns.items c.push.new.self.items c.loop-call.state c.turn.new.self _ _ _ c.in-Some.call c.in-Ok.turn
-          c.loop-call.invariant.2 c.in-Ok.ensures.turn c.in-Ok.ensures.after c.in-Ok.ensures.unasked c.in-Ok.ensures.keys c.in-Ok.ensures.told c.in_ok-push-in-Ok.ensures.items,
+      carried-step c.args.cfg.now.enc c.loop-call.yielded c.loop-call.turns.items c.push.new.self.items c.loop-call.state c.turn.new.self _ _ (heard g c.turn.new.coder c.turn.new.detector) c.in-Some.call c.in-Ok.turn
+          c.in_default.ensures.valid.looks_ahead c.loop-call.invariant.2 c.in-Ok.ensures.turn c.in-Ok.ensures.after c.in-Ok.ensures.keys c.in-Ok.ensures.told
+          c.in-Ok.ensures.asked c.in-Ok.ensures.same_answers c.in-Ok.ensures.given c.in-Ok.ensures.counted c.in-Ok.ensures.same_gives
+          c.in_ok-push-in-Ok.ensures.items,
       omega (arith, c.loop-call.invariant.3, c.in-Ok.ensures.later),
       left,
     )
@@ -38,18 +43,27 @@ pub returns-in_err-push-in-Ok-clause-bitrate : goal.returns-in_err-push-in-Ok-cl
 returns-in_err-push-in-Ok-clause-bitrate g c = λ valid asks. absurd (omega (arith, ints, c.if-cfg-gt0.false))
 
 pub returns-in_err-push-in-Ok-clause-kept : goal.returns-in_err-push-in-Ok-clause-kept
-returns-in_err-push-in-Ok-clause-kept g c = carried-more _ _ _ _ _ _ _ _ c.loop-call.invariant.2 c.in-Ok.ensures.told
+returns-in_err-push-in-Ok-clause-kept g c = only-then _ _ _ (carried-grew _ _ _ _ _ _ c.loop-call.invariant.2) (_, c.in-Ok.ensures.told)
+
+pub returns-in_err-push-in-Ok-clause-kept_questions : goal.returns-in_err-push-in-Ok-clause-kept_questions
+returns-in_err-push-in-Ok-clause-kept_questions g c = only-then _ _ _ (carried-asked _ _ _ _ _ _ c.loop-call.invariant.2) c.in-Ok.ensures.grew
+
+pub returns-in_err-push-in-Ok-clause-same_gives : goal.returns-in_err-push-in-Ok-clause-same_gives
+returns-in_err-push-in-Ok-clause-same_gives g c = c.in-Ok.ensures.same_gives ∙ c.loop-call.invariant.2.same_gives
+
+pub returns-in_err-push-in-Ok-clause-same_answers : goal.returns-in_err-push-in-Ok-clause-same_answers
+returns-in_err-push-in-Ok-clause-same_answers g c = c.in-Ok.ensures.same_answers ∙ c.loop-call.invariant.2.answers
 
 -- what an error says of the calls
 stop : (g : given.Over) (c : goal.After-drop-state-in-Err-turn-4 g) →
-    Stops c.args.cfg.now.enc c.args.calls.items (g.C.FrameCoder.told c.args.coder.now) (g.C.FrameCoder.told c.turn.new.coder)
+    Stops c.args.cfg.now.enc c.args.calls.items (heard g c.args.coder.now c.args.detector.now) (heard g c.turn.new.coder c.turn.new.detector)
     (g.C.FrameCoder.faults c.args.coder.now) (g.C.FrameCoder.faults c.turn.new.coder) c.in-Err-turn.error
 stop g c =
     let at : c.loop-call.yielded ++ c.in-Some.call ∷ c.next.new.self.rest.items ≡ c.args.calls.items =
     ap (λ rest. c.loop-call.yielded ++ rest) (sym c.in-Some.ensures.steps.0) ∙ c.loop-call.invariant.4 in
     carried-stop c.args.cfg.now.enc c.loop-call.yielded c.next.new.self.rest.items c.args.calls.items c.loop-call.turns.items c.loop-call.state
     _ _ _ _ _ _ c.in-Some.call c.in-Err-turn.error c.loop-call.invariant.2 at c.in-Err-turn.ensures.receives
-    c.loop-call.invariant.3 c.in-Err-turn.ensures.failed
+    (λ receive. ap g.D.Detector.told (c.in-Err-turn.ensures.silent receive)) c.loop-call.invariant.3 c.in-Err-turn.ensures.failed
 
 same : {A E : Type 0} (a b : E) → ◌≡◌ {A = Result A E} (Err a) (Err b) → a ≡ b
 same a b e = cc
@@ -69,25 +83,51 @@ returns-in-Err-turn-clause-complete g c = λ valid none still. inr (ap Err ((sto
 pub returns-in-Err-turn-clause-kept : goal.returns-in-Err-turn-clause-kept
 returns-in-Err-turn-clause-kept g c = (stop g c).kept
 
+pub returns-in-Err-turn-clause-kept_questions : goal.returns-in-Err-turn-clause-kept_questions
+returns-in-Err-turn-clause-kept_questions g c = only-then _ _ _ (carried-asked _ _ _ _ _ _ c.loop-call.invariant.2) c.in-Err-turn.ensures.grew
+
+pub returns-in-Err-turn-clause-same_gives : goal.returns-in-Err-turn-clause-same_gives
+returns-in-Err-turn-clause-same_gives g c = c.in-Err-turn.ensures.same_gives ∙ c.loop-call.invariant.2.same_gives
+
+pub returns-in-Err-turn-clause-same_answers : goal.returns-in-Err-turn-clause-same_answers
+returns-in-Err-turn-clause-same_answers g c = c.in-Err-turn.ensures.same_answers ∙ c.loop-call.invariant.2.answers
+
 -- every call was answered
 all_done : (g : given.Over) (c : goal.After-drop-state-4 g) → c.loop-call.yielded ≡ c.args.calls.items
 all_done g c =
     let none : c.loop-call.call-iterator.rest.items ≡ [] = nil_from_length _ (omega (arith, c.in-None.ensures.steps.0)) in
     sym (append-nil c.loop-call.yielded) ∙ ap (λ rest. c.loop-call.yielded ++ rest) (sym none) ∙ c.loop-call.invariant.4
 
-pub returns-clause-session : goal.returns-clause-session
-returns-clause-session g c =
+run : (g : given.Over) (c : goal.After-drop-state-4 g) →
+    IsSessionRun c.args.cfg.now.enc c.args.calls.items (record { turns = c.from_vec.result; decisions = c.from_vec-2.result })
+    (heard g c.args.coder.now c.args.detector.now) (heard g c.loop-call.coder c.loop-call.detector)
+run g c =
     let enc = c.args.cfg.now.enc in
     let calls = c.args.calls.items in
     let state = c.loop-call.state in
-    let before = g.C.FrameCoder.told c.args.coder.now in
-    let now = g.C.FrameCoder.told c.loop-call.coder in
+    let before = heard g c.args.coder.now c.args.detector.now in
+    let now = heard g c.loop-call.coder c.loop-call.detector in
     let all = subst (λ done. Carried enc done c.loop-call.turns.items state before now) (all_done g c) c.loop-call.invariant.2 in
     let listed = subst (λ turns. Carried enc calls turns state before now) (sym c.from_vec.ensures) all in
     carried-session enc calls (record { turns = c.from_vec.result; decisions = c.from_vec-2.result }) state before now listed c.from_vec-2.ensures
+
+pub returns-clause-session : goal.returns-clause-session
+returns-clause-session g c = run g c
+
+pub returns-clause-schedules : goal.returns-clause-schedules
+returns-clause-schedules g c = session-schedule c.args.cfg.now.enc c.args.calls.items _ _ _ (run g c)
 
 pub returns-clause-bitrate : goal.returns-clause-bitrate
 returns-clause-bitrate g c = λ valid asks. absurd (omega (arith, ints, c.if-cfg-gt0.false))
 
 pub returns-clause-kept : goal.returns-clause-kept
 returns-clause-kept g c = carried-grew _ _ _ _ _ _ c.loop-call.invariant.2
+
+pub returns-clause-kept_questions : goal.returns-clause-kept_questions
+returns-clause-kept_questions g c = carried-asked _ _ _ _ _ _ c.loop-call.invariant.2
+
+pub returns-clause-same_answers : goal.returns-clause-same_answers
+returns-clause-same_answers g c = c.loop-call.invariant.2.answers
+
+pub returns-clause-same_gives : goal.returns-clause-same_gives
+returns-clause-same_gives g c = c.loop-call.invariant.2.same_gives

@@ -1,5 +1,10 @@
-use Rattle.session_core.proofs.StateLemmas.{Deciding}
+use Rattle.std.proofs.Common.{◌≡◌, ◌+◌, length}
+use Rattle.session_core.specs.States.{Decided}
 use Rattle.session_core.proofs.state.SessionState.decide.Given as goal
 
+-- the positions before this one are decided
 abbrev pub invariant-loop-position : goal.invariant-loop-position
-invariant-loop-position g l = Deciding l.fn.self l.self l.position
+invariant-loop-position g l =
+    Decided l.mode l.fn.self l.self (g.D.Detector.told l.fn.detector) (g.D.Detector.told l.detector) (g.D.Detector.answers l.fn.detector) (length l.self.decisions.items)
+    × (l.position ≡ length l.self.decisions.items + 1)
+    × (g.D.Detector.answers l.detector ≡ g.D.Detector.answers l.fn.detector)

@@ -1,13 +1,13 @@
-use Rattle.std.proofs.Common.{◌≡◌, ◌+◌, ◌-◌, ◌++◌, ◌∷◌, [], List, length, map, None, false, ap, subst, sym, ◌∙◌, rules, arith}
+use Rattle.std.proofs.Common.{◌≡◌, ◌+◌, ◌++◌, ◌∷◌, [], List, map, None, false, refl, ap, subst, sym, ◌∙◌, rules, arith}
 use Rattle.std.proofs.lemmas.List.{map-append}
 use Rattle.pyramid.specs.Numbers.{ahead}
 use Rattle.pyramid.specs.Settings.{numbers_of}
 use Rattle.session_core.specs.declared.state.SessionState.{SessionState}
 use Rattle.session_core.specs.Decisions.{decided_count}
 use Rattle.session_core.specs.Moments.{Moment, Waiting}
-use Rattle.session_core.specs.States.{moment_of, waiting_of, sent_decisions}
+use Rattle.session_core.specs.States.{moment_of, waiting_of}
 use Rattle.session_core.specs.Turns.{accepted_of}
-use Rattle.session_core.proofs.StateLemmas.{Made, made-decides, made-all, made-unasked}
+use Rattle.session_core.proofs.Deciding.{Made, made-of, made-decides, made-all, made-asked}
 use Rattle.session_core.proofs.state.SessionState.send.Given as given
 use Rattle.session_core.proofs.state.SessionState.send.Goals as goal
 use Rattle.session_core.proofs.state.SessionState.send.Goals.{then-number-eq0+in_ok-push, else-number-eq0}
@@ -37,29 +37,24 @@ taken g c =
     ]
 
 all : (g : given.Over) (c : goal.In_ok-decide g) →
-    c.saturating_sub.result ≡ decided_count (numbers_of c.args.enc.now) (c.args.self.now.accepted + 1) c.args.self.now.flushed
+    c.saturating_sub-last.result ≡ decided_count (numbers_of c.args.enc.now) (c.args.self.now.accepted + 1) c.args.self.now.flushed
 all g c =
     let open_yet : c.args.self.now.flushed ≡ false = search rules in
     let distance : c.ahead.result ≡ ahead (numbers_of c.args.enc.now) = c.ahead.ensures ∙ ap ahead c.new.ensures in
     rw open_yet (omega (arith, distance))
 
-made : (g : given.Over) (c : goal.In_ok-decide g) → Made (moment_of c.args.self.now) (with_frame g c) (moment_of c.decide.new.self) c.saturating_sub.result
+made : (g : given.Over) (c : goal.In_ok-decide g) →
+    Made c.args.enc.now (moment_of c.args.self.now) (with_frame g c) (moment_of c.decide.new.self)
+    (g.D.Detector.told c.args.detector.now) (g.D.Detector.told c.decide.new.detector) (g.D.Detector.answers c.args.detector.now)
 made g c =
-    let last = c.saturating_sub.result in
-    let at = taken g c in
-    record {
-      same = c.in_ok-decide.ensures.same
-          ∙ ap (λ (m : Moment g.row.T.Denot g.row.O.Denot). let n : Moment g.row.T.Denot g.row.O.Denot = record m { decisions = c.decide.new.self.decisions.items } in n) at;
-      decisions = c.in_ok-decide.ensures.decisions
-          ∙ ap (λ (m : Moment g.row.T.Denot g.row.O.Denot). m.decisions ++ sent_decisions m (length m.decisions + 1) (last - length m.decisions)) at;
-      more = search rules;
-    }
+    made-of c.args.enc.now (moment_of c.args.self.now) (with_frame g c) (record c.if-number-eq0.self { accepted = c.args.self.now.accepted + 1 }) c.decide.new.self
+    _ _ _ _ (taken g c) refl (all g c) c.in_ok-decide.ensures.decided
 
 pub returns-clause-after : goal.returns-clause-after
-returns-clause-after g c = made-all c.args.enc.now _ _ _ _ (made g c) (all g c)
+returns-clause-after g c = made-all c.args.enc.now _ _ _ _ _ _ (made g c)
 
 pub returns-clause-decides : goal.returns-clause-decides
-returns-clause-decides g c = made-decides c.args.enc.now _ _ _ _ (made g c) (all g c)
+returns-clause-decides g c = made-decides c.args.enc.now _ _ _ _ _ _ (made g c)
 
-pub returns-clause-unasked : goal.returns-clause-unasked
-returns-clause-unasked g c = made-unasked _ _ _ _ (made g c)
+pub returns-clause-asked : goal.returns-clause-asked
+returns-clause-asked g c = made-asked c.args.enc.now _ _ _ _ _ _ (made g c)
