@@ -1,2 +1,2 @@
 pub mod ByteBounds
-pub mod LogBytes
+pub mod Countdown

@@ -1,3 +1,4 @@
 pub mod CoderLog
+pub mod DetectorLog
 pub mod NoLevels
 pub mod ScriptedBytes

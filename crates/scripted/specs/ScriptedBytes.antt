@@ -1,28 +1,28 @@
 -- The bytes that the scripted coder gives.
-use Rattle.std.specs.Prelude.{ℕ, ◌%◌, List, [], ◌∷◌, replicate}
+use Rattle.std.specs.Prelude.{ℕ, ◌%◌, ◌==◌, min, max, List, [], ◌∷◌, replicate, reverse, Option}
+use Rattle.std.specs.List.{find}
+use Rattle.std.specs.Option.{option_map, option_map_or}
 use Rattle.av1_settings.specs.declared.frame_type.FrameType.{FrameType}
 use Rattle.av1_settings.specs.declared.frame_type.FrameType.TheVariants.{KEY}
 use Rattle.pyramid.specs.declared.command.Command.{Command}
 use Rattle.pyramid.specs.declared.command.Command.TheVariants.{Code, Show}
-use Rattle.scripted.specs.declared.coder.Given.{Given}
-use Rattle.scripted.specs.declared.coder.Given.TheVariants.{Coded, Shown}
-use Rattle.scripted.specs.declared.coder.TheConstants.{KEY_BYTES, OTHER_BYTES}
+use Rattle.scripted.specs.declared.coder.TheConstants.{KEY_BYTES, MOST_BYTES, OTHER_BYTES}
 
--- how many bytes a frame of this type has
-abbrev pub byte_count : FrameType → ℕ
-byte_count KEY = KEY_BYTES
-byte_count kind = OTHER_BYTES
+-- how many bytes a frame of this type has where no count is set for it
+abbrev pub plain_count : FrameType → ℕ
+plain_count KEY = KEY_BYTES
+plain_count kind = OTHER_BYTES
+
+-- the count that is set for a frame, if one is: the last of its
+abbrev pub set_count : List (ℕ × ℕ) → ℕ → Option ℕ
+set_count counts frame = option_map (λ count. count.1) (find (λ count. count.0 == frame) (reverse counts))
+
+-- how many bytes a frame has: the count that is set for it, from 1 to 4096, else that of its type
+abbrev pub byte_count : List (ℕ × ℕ) → ℕ → FrameType → ℕ
+byte_count counts frame kind =
+    option_map_or (λ count. max (min count MOST_BYTES) 1) (set_count counts frame) (plain_count kind)
 
 -- the bytes of a command: of a frame its number modulo 256, each; of a show 1a 01 and the slot
-unfoldable pub scripted_bytes : Command → List ℕ
-scripted_bytes (Code frame kind refs refresh shown) = replicate (byte_count kind) (frame % 256)
-scripted_bytes (Show slot) = 0x1a ∷ 0x01 ∷ slot ∷ []
-
--- the bytes that a call gave, and those that its command asks for
-abbrev pub given_bytes : Given → List ℕ
-given_bytes (Coded command trial picture bytes) = bytes
-given_bytes (Shown slot frame bytes) = bytes
-
-abbrev pub asked_bytes : Given → List ℕ
-asked_bytes (Coded command trial picture bytes) = scripted_bytes command
-asked_bytes (Shown slot frame bytes) = scripted_bytes (Show slot)
+unfoldable pub scripted_bytes : List (ℕ × ℕ) → Command → List ℕ
+scripted_bytes counts (Code frame kind refs refresh shown) = replicate (byte_count counts frame kind) (frame % 256)
+scripted_bytes counts (Show slot) = 0x1a ∷ 0x01 ∷ slot ∷ []

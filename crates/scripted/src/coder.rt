@@ -1,5 +1,7 @@
-ghost use Rattle.std.specs.Prelude.{◌≡◌, ◌∷◌, [], map, IfOk};
-ghost use Rattle.scripted.specs.ScriptedBytes.{scripted_bytes, byte_count, given_bytes, asked_bytes};
+ghost use Rattle.std.specs.Prelude.{◌≡◌, ◌∷◌, [], ◌≤◌, Some, IfOk, min};
+ghost use Rattle.std.specs.List.{reduce};
+ghost use Rattle.coding_base.specs.Faults.{Rose};
+ghost use Rattle.scripted.specs.ScriptedBytes.{byte_count, plain_count, scripted_bytes, set_count};
 
 use av1_frame::Frame;
 use av1_settings::FrameType;
@@ -34,12 +36,16 @@ pub enum Given {
     },
 }
 
-/// The program's coder: a frame codes to as many bytes as its type asks for, each its number modulo 256. It keeps what it
-/// was asked for and gave, and never fails.
+/// The program's coder: a frame codes to as many bytes as are set for it, else as its type asks for, each byte the frame's
+/// number modulo 256. It keeps what it was asked for and gave, and fails from a given call on.
 #[derive(Drop)]
 pub struct ScriptedCoder {
-    log: Sequence<Given>,
-    ghost scripted: { map given_bytes log ≡ map asked_bytes log },
+    /// Frames, and how many bytes each codes to; the last for a frame counts.
+    pub(crate) byte_counts: Sequence<(u64, u64)>,
+    /// The number of the first call that fails, from 0; all behind it fail too.
+    pub(crate) first_fault: Option<u64>,
+    pub(crate) faults: u64,
+    pub(crate) log: Sequence<Given>,
 }
 
 // The bytes of a key frame, and of any other.
@@ -47,8 +53,11 @@ const KEY_BYTES: usize = 100;
 
 const OTHER_BYTES: usize = 20;
 
-fn byte_count(kind: FrameType) -> usize
-    ensures { result ≡ byte_count kind }
+// The most bytes of a frame.
+const MOST_BYTES: u64 = 4096;
+
+fn plain_count(kind: FrameType) -> usize
+    ensures { result ≡ plain_count kind }
 {
     match kind {
         FrameType::KEY => KEY_BYTES,
@@ -56,15 +65,43 @@ fn byte_count(kind: FrameType) -> usize
     }
 }
 
+// The count that is set for a frame, if one is.
+fn set_count(byte_counts: &[(u64, u64)], frame: u64) -> Option<u64>
+    ensures { result ≡ set_count byte_counts.now frame }
+{
+    let (_, count) = byte_counts.iter().rev().find(|count| count.0 == frame)?;
+    Some(*count)
+}
+
+fn byte_count(byte_counts: &[(u64, u64)], frame: u64, kind: FrameType) -> usize
+    ensures { result ≡ byte_count byte_counts.now frame kind }
+{
+    match set_count(byte_counts, frame) {
+        Some(count) => count.min(MOST_BYTES).max(1) as usize,
+        None => plain_count(kind),
+    }
+}
+
+// The least of the numbers of calls that fail.
+fn first_fault(faults: &[u64]) -> Option<u64>
+    ensures { result ≡ reduce min faults.now }
+{
+    faults.iter().min().copied()
+}
+
 // The bytes of a command: of a frame, its number in every byte; of a show, an open bitstream unit of one byte, the slot.
 #[tactic(auto, unfolding(crate::specs::ScriptedBytes::scripted_bytes))]
-fn scripted_bytes(alloc: Global, command: &Command) -> Result<Bytes, OutOfMemory>
-    ensures { IfOk result (λ bytes. bytes ≡ scripted_bytes command.now) }
+fn scripted_bytes(
+    alloc: Global,
+    byte_counts: &[(u64, u64)],
+    command: &Command,
+) -> Result<Bytes, OutOfMemory>
+    ensures { IfOk result (λ bytes. bytes ≡ scripted_bytes byte_counts.now command.now) }
 {
     match *command {
         Command::Code { frame, kind, .. } => {
             let mut bytes = Vec::new(alloc);
-            bytes.resize(byte_count(kind), (frame % 256) as u8)?;
+            bytes.resize(byte_count(byte_counts, frame, kind), (frame % 256) as u8)?;
             Ok(Sequence::from_vec(bytes))
         }
         Command::Show { slot } => Ok(Sequence::from_slice(alloc, &shown_bytes(slot))?),
@@ -78,24 +115,73 @@ fn shown_bytes(slot: u8) -> [u8; 3]
 }
 
 impl ScriptedCoder {
-    ghost use Rattle.std.specs.Prelude.{◌++◌, ◌∷◌, [], ◌<◌, ◌^◌, length, OnOk, OnErr};
+    ghost use Rattle.std.specs.Prelude.{◌++◌, ◌∷◌, [], IsTrue, Some, map, OnOk, OnErr};
     ghost use Rattle.session_core.specs.Told.{GrowsBy, told_code, told_show};
-    ghost use Rattle.scripted.specs.CoderLog.{told_of, coder_told};
+    ghost use Rattle.scripted.specs.CoderLog.{coder_fails_after, coder_faults, coder_gives, coder_told, is_due, told_of};
 
-    /// A coder that was asked for nothing yet.
+    /// A coder that was asked for nothing yet, sets no counts of bytes and never fails.
     pub fn new(alloc: Global) -> ScriptedCoder
         ensures { coder_told result ≡ Some [] }
     {
         ScriptedCoder {
+            byte_counts: Sequence::new(alloc),
+            first_fault: None,
+            faults: 0,
             log: Sequence::new(alloc),
         }
     }
 
+    /// A coder that was asked for nothing yet. A pair sets how many bytes a frame codes to, of which it has at least 1 and at
+    /// most 4096; the last pair for a frame counts. `faults` are numbers of calls that fail, from 0, trials and shows
+    /// counted; behind the first of them each call fails.
+    pub fn with_rules(
+        alloc: Global,
+        byte_counts: &[(u64, u64)],
+        faults: &[u64],
+    ) -> Result<ScriptedCoder, OutOfMemory>
+        ensures told { IfOk result (λ coder. coder_told coder ≡ Some []) }
+        ensures gives { IfOk result (λ coder.
+            coder_gives coder ≡ Some (scripted_bytes byte_counts.now)) }
+        ensures fails_after { IfOk result (λ coder. coder_fails_after coder ≡ Some (reduce min faults.now)) }
+        ensures faults { IfOk result (λ coder. coder_faults coder ≡ 0) }
+    {
+        Ok(ScriptedCoder {
+            byte_counts: Sequence::from_slice(alloc, byte_counts)?,
+            first_fault: first_fault(faults),
+            faults: 0,
+            log: Sequence::new(alloc),
+        })
+    }
+
+    /// The calls that gave bytes so far, in order.
+    pub fn given(&self) -> &[Given]
+        ensures { coder_told self.now ≡ Some (map told_of result.now) }
+    {
+        self.log.as_slice()
+    }
+
+    // Counts a fault, where this call is to fail.
+    fn fails(&mut self) -> bool
+        ensures due { result ≡ is_due self.old }
+        ensures later { self.old.faults ≤ self.new.faults }
+        ensures rose { IsTrue result → Rose self.old.faults self.new.faults }
+        ensures same { self.new ≡ record self.old { faults = self.new.faults } }
+    {
+        match self.first_fault {
+            Some(first) if first <= self.log.len() as u64 => {
+                self.faults = self.faults.saturating_add(1);
+                true
+            }
+            _ => false,
+        }
+    }
+
+    // Keeps a call that gave bytes.
     fn keep(&mut self, given: Given) -> Result<(), OutOfMemory>
-        requires { given_bytes given ≡ asked_bytes given }
         ensures ok { OnOk result
             (coder_told self.new ≡ Some (map told_of self.old.log ++ told_of given ∷ [])) }
         ensures err { OnErr result (coder_told self.new ≡ coder_told self.old) }
+        ensures same { self.new ≡ record self.old { log = self.new.log } }
     {
         self.log.push(given)?;
         Ok(())
@@ -104,10 +190,12 @@ impl ScriptedCoder {
     fn keep_code(&mut self, alloc: Global, job: &CodeJob<u8>) -> Result<CodedFrame, OutOfMemory>
         ensures told { GrowsBy (coder_told self.old) (coder_told self.new) result
             (told_code job.now) }
-        ensures bytes { IfOk result (λ coded. coded.bytes ≡ scripted_bytes job.now.command) }
+        ensures bytes { IfOk result (λ coded.
+            coded.bytes ≡ scripted_bytes self.old.byte_counts job.now.command) }
+        ensures same { self.new ≡ record self.old { log = self.new.log } }
     {
-        let bytes = scripted_bytes(alloc, &job.command)?;
-        let kept = scripted_bytes(alloc, &job.command)?;
+        let bytes = scripted_bytes(alloc, self.byte_counts.as_slice(), &job.command)?;
+        let kept = scripted_bytes(alloc, self.byte_counts.as_slice(), &job.command)?;
         let picture = job.picture.clone()?;
         self.keep(Given::Coded {
             command: job.command,
@@ -118,12 +206,13 @@ impl ScriptedCoder {
         Ok(CodedFrame { bytes })
     }
 
-    #[tactic(auto, unfolding(crate::specs::ScriptedBytes::scripted_bytes))]
     fn keep_show(&mut self, alloc: Global, slot: u8, frame: u64) -> Result<ShownFrame, OutOfMemory>
-        ensures { GrowsBy (coder_told self.old) (coder_told self.new) result
+        ensures told { GrowsBy (coder_told self.old) (coder_told self.new) result
             (told_show slot frame) }
+        ensures bytes { IfOk result (λ shown. shown.bytes ≡ 26 ∷ 1 ∷ slot ∷ []) }
+        ensures same { self.new ≡ record self.old { log = self.new.log } }
     {
-        let kept = scripted_bytes(alloc, &Command::Show { slot })?;
+        let kept = Sequence::from_slice(alloc, &shown_bytes(slot))?;
         self.keep(Given::Shown {
             slot,
             frame,
@@ -136,20 +225,32 @@ impl ScriptedCoder {
 }
 
 impl FrameCoder<u8> for ScriptedCoder {
-    ghost use Rattle.scripted.specs.CoderLog.{coder_told, coder_faults};
+    ghost use Rattle.scripted.specs.CoderLog.{coder_fails_after, coder_faults, coder_gives, coder_told};
 
     ghost told = { coder_told };
 
+    ghost gives = { coder_gives };
+
+    ghost fails_after = { coder_fails_after };
+
     ghost faults = { coder_faults };
 
+    #[tactic(auto, unfolding(crate::specs::ScriptedBytes::scripted_bytes))]
     fn code(&mut self, alloc: Global, job: &CodeJob<u8>) -> Result<CodedFrame, CoderError> {
+        if self.fails() {
+            return Err(CoderError::Failed);
+        }
         match self.keep_code(alloc, job) {
             Ok(coded) => Ok(coded),
             Err(_) => Err(CoderError::OutOfMemory),
         }
     }
 
+    #[tactic(auto, unfolding(crate::specs::ScriptedBytes::scripted_bytes))]
     fn show(&mut self, alloc: Global, slot: u8, frame: u64) -> Result<ShownFrame, CoderError> {
+        if self.fails() {
+            return Err(CoderError::Failed);
+        }
         match self.keep_show(alloc, slot, frame) {
             Ok(shown) => Ok(shown),
             Err(_) => Err(CoderError::OutOfMemory),
@@ -157,6 +258,6 @@ impl FrameCoder<u8> for ScriptedCoder {
     }
 
     fn faults(&self) -> u64 {
-        0
+        self.faults
     }
 }

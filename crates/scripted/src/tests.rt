@@ -1,8 +1,8 @@
 use super::*;
 use av1_frame::{ChromaSampling, Frame};
-use av1_settings::FrameType;
+use av1_settings::{FrameType, SceneDetectionSpeed};
 use pyramid::{Command, Refs};
-use session_core::{CodeJob, FrameCoder};
+use session_core::{CodeJob, CoderError, Detector, FrameCoder};
 use std::sync::Arc;
 use std::test::Fail;
 
@@ -39,5 +39,91 @@ fn frames_and_shows_have_their_bytes(rt: HostRuntime) -> Result<(), Fail> {
     let shown = coder.show(alloc, 4, 2)?;
     assert_eq!(rt; shown.bytes, [0x1a, 0x01, 4]);
     assert_eq!(rt; coder.faults(), 0);
+    Ok(())
+}
+
+#[test]
+fn scenes_begin_at_the_cuts(rt: HostRuntime) -> Result<(), Fail> {
+    let alloc = rt.alloc();
+    let mut detector = ScriptedDetector::new(alloc, &[3, 25, 3])?;
+    let frame: Frame<u8> = Frame::new(alloc, 16, 16, ChromaSampling::Cs420)?;
+    let picture = Arc::new(alloc, frame)?;
+    let mut frames = Vec::new(alloc);
+    frames.push(picture.clone()?)?;
+    frames.push(picture)?;
+    for (position, wanted) in [(1, false), (3, true), (24, false), (25, true), (26, false)] {
+        let answer = detector.ask(
+            alloc,
+            SceneDetectionSpeed::Standard,
+            &frames,
+            position,
+            position - 1,
+        )?;
+        assert_eq!(rt; answer, wanted);
+    }
+    let mut kept = Vec::new(alloc);
+    for question in detector.questions() {
+        let frames = question.frames.len();
+        kept.push((
+            question.position,
+            question.last_key,
+            frames,
+            question.answer,
+        ))?;
+    }
+    let wanted: [(u64, u64, usize, bool); 5] = [
+        (1, 0, 2, false),
+        (3, 2, 2, true),
+        (24, 23, 2, false),
+        (25, 24, 2, true),
+        (26, 25, 2, false),
+    ];
+    assert_eq!(rt; kept.as_slice(), wanted.as_slice());
+    Ok(())
+}
+
+fn job(picture: &Arc<Frame<u8>>, frame: u64) -> Result<CodeJob<u8>, Fail> {
+    Ok(CodeJob {
+        command: Command::Code {
+            frame,
+            kind: FrameType::INTER,
+            refs: Refs::new(&[]).ok_or("no slots")?,
+            refresh: 1,
+            shown: true,
+        },
+        trial: false,
+        picture: picture.clone()?,
+    })
+}
+
+#[test]
+fn the_last_count_for_a_frame_is_its_own(rt: HostRuntime) -> Result<(), Fail> {
+    let alloc = rt.alloc();
+    let frame: Frame<u8> = Frame::new(alloc, 16, 16, ChromaSampling::Cs420)?;
+    let picture = Arc::new(alloc, frame)?;
+    let counts = [(0, 3), (1, 4096), (0, 2), (2, 1)];
+    let mut coder = ScriptedCoder::with_rules(alloc, &counts, &[])?;
+    for (frame, count) in [(0, 2), (1, 4096), (2, 1), (3, 20)] {
+        let coded = coder.code(alloc, &job(&picture, frame)?)?;
+        assert_eq!(rt; coded.bytes.len(), count);
+    }
+    Ok(())
+}
+
+#[test]
+fn the_least_fault_comes_first(rt: HostRuntime) -> Result<(), Fail> {
+    let alloc = rt.alloc();
+    let frame: Frame<u8> = Frame::new(alloc, 16, 16, ChromaSampling::Cs420)?;
+    let picture = Arc::new(alloc, frame)?;
+    let mut coder = ScriptedCoder::with_rules(alloc, &[], &[5, 2, 7])?;
+    coder.code(alloc, &job(&picture, 0)?)?;
+    coder.show(alloc, 0, 0)?;
+    assert_eq!(rt; coder.faults(), 0);
+    let failed = coder.code(alloc, &job(&picture, 1)?);
+    assert_eq!(rt; failed.err(), Some(CoderError::Failed));
+    assert_eq!(rt; coder.faults(), 1);
+    let failed = coder.show(alloc, 0, 0);
+    assert_eq!(rt; failed.err(), Some(CoderError::Failed));
+    assert_eq!(rt; coder.faults(), 2);
     Ok(())
 }
