@@ -1,3 +1,4 @@
+pub mod Configs
 pub mod Cuts
 pub mod Digits
 pub mod LineWords

@@ -1,5 +1,5 @@
 -- A number of a script.
-use Rattle.std.specs.Prelude.{ℕ, ◌^◌, ◌==◌, ◌&&◌, ◌||◌, nat_lt, if◌then◌else◌, List, length, Option, None, Some}
+use Rattle.std.specs.Prelude.{ℕ, ◌^◌, ◌==◌, ◌&&◌, ◌||◌, nat_le, nat_lt, if◌then◌else◌, List, length, Option, None, Some, option_and_then}
 use Rattle.std.specs.Char.{is_ascii_digit}
 use Rattle.std.specs.List.{list_all}
 use Rattle.std.specs.Str.Parse.{digits_value}
@@ -16,3 +16,7 @@ digits_of text =
 unfoldable pub number_of : List ℕ → Option ℕ
 number_of text =
     if length text == 0 || nat_lt MOST_DIGITS (length text) then None else digits_of text
+
+-- the same, if it is at most this
+abbrev pub number_up_to : ℕ → List ℕ → Option ℕ
+number_up_to most text = option_and_then (λ n. if nat_le n most then Some n else None) (number_of text)

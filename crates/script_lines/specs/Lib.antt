@@ -1,4 +1,6 @@
+pub mod AnswerLines
 pub mod DecimalNumbers
 pub mod Grammar
+pub mod HexBytes
 pub mod Lines
 pub mod SettingLines

@@ -2,7 +2,9 @@
 //! line is named that can't stand where it stands.
 #![tactic(auto)]
 
+mod answer;
 mod cut;
+mod hex_bytes;
 mod line;
 mod number;
 mod script;
@@ -10,6 +12,7 @@ mod setting;
 #[cfg(test)]
 mod tests;
 
+pub use answer::{Answer, Print};
 pub use line::{Action, ActionList};
 pub use script::{MOST_CALLS, Script, ScriptError, SettingList, parse};
 pub use setting::Setting;

@@ -1,6 +1,6 @@
-ghost use Rattle.std.specs.Prelude.{◌≡◌, ◌+◌, ◌*◌, ◌^◌, ◌&&◌, nat_lt, None, Some, if◌then◌else◌};
+ghost use Rattle.std.specs.Prelude.{◌≡◌, ◌≤◌, ◌+◌, ◌*◌, ◌^◌, ◌&&◌, nat_lt, None, Some, IfSome, if◌then◌else◌};
 ghost use Rattle.std.specs.Char.{digit_value, is_ascii_digit};
-ghost use Rattle.script_lines.specs.DecimalNumbers.{number_of, digits_of};
+ghost use Rattle.script_lines.specs.DecimalNumbers.{digits_of, number_of, number_up_to};
 
 // The most digits of a number.
 const MOST_DIGITS: usize = 20;
@@ -14,6 +14,15 @@ pub fn number(text: &[u8]) -> Option<u64>
         return None;
     }
     digits(text)
+}
+
+/// The same, if it is at most this.
+pub fn number_up_to(text: &[u8], most: u64) -> Option<u64>
+    ensures value { result ≡ number_up_to most text.now }
+    ensures within { IfSome result (λ n. n ≤ most) }
+{
+    let n = number(text)?;
+    if n <= most { Some(n) } else { None }
 }
 
 // The number that digits write, if it fits 64 bits.

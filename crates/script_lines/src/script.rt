@@ -1,13 +1,19 @@
-ghost use Rattle.std.specs.Prelude.{◌≡◌, [], ◌+◌, ◌&&◌, ◌||◌, Ok, not, bytes_eq, nat_le, replicate, false, None, Some, IfOk, MatchResult, if◌then◌else◌};
+ghost use Rattle.std.specs.Prelude.{◌≡◌, ◌≢◌, ◌↔◌, ℤ, [], ◌+◌, Ok, Err, bytes_eq, nat_le, None, Some, IfOk, MatchResult, if◌then◌else◌};
 ghost use Rattle.std.specs.List.{list_any};
-ghost use Rattle.script_lines.specs.Grammar.{empty_draft, config_of, with_line, script_of, IsScriptError};
-ghost use Rattle.script_lines.specs.declared.line.Line.TheVariants.{Set, Calls};
+ghost use Rattle.pass_stats.specs.declared.error.Why.{Why};
+ghost use Rattle.pass_stats.specs.declared.error.RateControlError.TheVariants.{CorruptedSummary, InvalidVersion};
+ghost use Rattle.av1_settings.specs.declared.config.Config.{Config};
+ghost use Rattle.script_lines.specs.Grammar.{empty_draft, may_set, with_line, script_of, summary_refusal, IsConfig, IsScriptError};
+ghost use Rattle.script_lines.specs.SettingLines.{encoder_of, preset_of};
+ghost use Rattle.script_lines.specs.declared.line.Line.TheVariants.{Set, Answers, Prints, Summary, Calls};
 
+use crate::answer::{Answer, Print};
 use crate::cut::cut;
-use crate::line::{Action, ActionList, Line, first_word, read_line};
+use crate::line::{Action, ActionList, Line, key, read_line};
 use crate::setting::Setting;
-use av1_settings::{Config, EncoderConfig};
+use av1_settings::{Config, EncoderConfig, RateControlConfig};
 use coding_base::{Bytes, OutOfMemory, Sequence};
+use pass_stats::{RateControlError, parse_summary};
 use std::alloc::Global;
 use thiserror::Error;
 
@@ -19,6 +25,16 @@ pub type SettingList = Sequence<Setting>;
 pub struct Script {
     /// The settings, in the order of their lines.
     pub settings: SettingList,
+    /// The bytes of the summary that makes a second pass.
+    pub summary: Option<Bytes>,
+    /// The frames at which the detector finds a scene cut.
+    pub cuts: Sequence<u64>,
+    /// Frames, and how many bytes the coder gives each; the last for a frame counts.
+    pub byte_counts: Sequence<(u64, u64)>,
+    /// The calls that the coder fails, by their numbers from 0.
+    pub faults: Sequence<u64>,
+    /// What the report has besides.
+    pub prints: Sequence<Print>,
     /// The calls, in order.
     pub calls: ActionList,
 }
@@ -37,16 +53,56 @@ pub enum ScriptError {
 /// The most calls of a script.
 pub const MOST_CALLS: usize = 100_000;
 
+// The speed preset of a script that names none.
+const DEFAULT_PRESET: u8 = 6;
+
 impl Script {
-    /// The configuration that the settings give, over the defaults.
-    pub fn config(&self) -> Config
-        ensures { result ≡ config_of self.now }
+    /// The configuration that the lines before the calls give: the script's preset first, then its other settings over it, and
+    /// the second pass that its summary makes. No memory is taken.
+    ///
+    /// # Errors
+    ///
+    /// That of the summary's bytes, where there are such bytes and they are no summary.
+    pub fn config(&self) -> Result<Config, RateControlError>
+        ensures accepted { (config : Config) → (result ≡ Ok config) ↔ IsConfig self.now config }
+        ensures refused { (why : Why) →
+            (result ≡ Err (CorruptedSummary why)) ↔ (summary_refusal self.now ≡ Some why) }
+        ensures never_version { (v : ℤ) → result ≢ Err (InvalidVersion v) }
     {
-        let mut enc = EncoderConfig::default();
+        let config = Config::new().with_encoder_config(self.encoder());
+        match &self.summary {
+            None => Ok(config),
+            Some(bytes) => match parse_summary(bytes.as_slice()) {
+                Ok(summary) => {
+                    let rate_control = RateControlConfig::new().with_summary(summary);
+                    Ok(config.with_rate_control(rate_control))
+                }
+                Err(error) => Err(error),
+            },
+        }
+    }
+
+    // The encoder's settings.
+    fn encoder(&self) -> EncoderConfig
+        ensures { result ≡ encoder_of self.now.settings }
+    {
+        let mut enc = EncoderConfig::with_speed_preset(self.preset());
         for setting in self.settings.as_slice() {
             setting.apply(&mut enc);
         }
-        Config::new().with_encoder_config(enc)
+        enc
+    }
+
+    // The speed preset.
+    fn preset(&self) -> u8
+        ensures { result ≡ preset_of self.now.settings }
+    {
+        for setting in self.settings.as_slice() {
+            if let Setting::Preset(speed) = setting {
+                return *speed;
+            }
+        }
+        DEFAULT_PRESET
     }
 }
 
@@ -64,6 +120,11 @@ impl Draft {
         Draft {
             script: Script {
                 settings: Sequence::new(alloc),
+                summary: None,
+                cuts: Sequence::new(alloc),
+                byte_counts: Sequence::new(alloc),
+                faults: Sequence::new(alloc),
+                prints: Sequence::new(alloc),
                 calls: Sequence::new(alloc),
             },
             words: Sequence::new(alloc),
@@ -78,6 +139,9 @@ impl Draft {
         match line {
             Line::Blank => Ok(true),
             Line::Set(setting) => self.add_setting(alloc, word, setting),
+            Line::Answers(answer) => self.add_answer(answer),
+            Line::Prints(print) => self.add_print(alloc, word, print),
+            Line::Summary(bytes) => self.add_summary(alloc, word, bytes),
             Line::Calls { action, count } => self.add_calls(action, count),
         }
     }
@@ -91,12 +155,58 @@ impl Draft {
         ensures { IfOk result (λ good.
             with_line self.old word.now (Set setting) ≡ (if good then Some self.new else None)) }
     {
-        if self.script.calls.len() > 0 || self.has_word(word) {
+        if !self.may_set(word) {
             return Ok(false);
         }
         self.words.push(Sequence::from_slice(alloc, word)?)?;
         self.script.settings.push(setting)?;
         Ok(true)
+    }
+
+    fn add_answer(&mut self, answer: Answer) -> Result<bool, OutOfMemory>
+        ensures { IfOk result (λ good.
+            with_line self.old [] (Answers answer) ≡ (if good then Some self.new else None)) }
+    {
+        if self.script.calls.len() > 0 {
+            return Ok(false);
+        }
+        match answer {
+            Answer::Cut(frame) => self.script.cuts.push(frame)?,
+            Answer::ByteCount { frame, count } => self.script.byte_counts.push((frame, count))?,
+            Answer::Fault(call) => self.script.faults.push(call)?,
+        }
+        Ok(true)
+    }
+
+    fn add_print(&mut self, alloc: Global, word: &[u8], print: Print) -> Result<bool, OutOfMemory>
+        ensures { IfOk result (λ good.
+            with_line self.old word.now (Prints print) ≡ (if good then Some self.new else None)) }
+    {
+        if !self.may_set(word) {
+            return Ok(false);
+        }
+        self.words.push(Sequence::from_slice(alloc, word)?)?;
+        self.script.prints.push(print)?;
+        Ok(true)
+    }
+
+    fn add_summary(&mut self, alloc: Global, word: &[u8], bytes: Bytes) -> Result<bool, OutOfMemory>
+        ensures { IfOk result (λ good.
+            with_line self.old word.now (Summary bytes) ≡ (if good then Some self.new else None)) }
+    {
+        if !self.may_set(word) {
+            return Ok(false);
+        }
+        self.words.push(Sequence::from_slice(alloc, word)?)?;
+        self.script.summary = Some(bytes);
+        Ok(true)
+    }
+
+    // Whether a setting line with this word may stand here.
+    fn may_set(&self, word: &[u8]) -> bool
+        ensures { result ≡ may_set self.now word.now }
+    {
+        self.script.calls.len() == 0 && !self.has_word(word)
     }
 
     // Whether a setting line with this word was read.
@@ -144,10 +254,13 @@ pub fn parse(alloc: Global, text: &[u8]) -> Result<Script, ScriptError>
     while let Some(lines) = rest {
         let (first, more) = cut(lines, b'\n');
         number += 1;
-        let Some(line) = read_line(first) else {
+        let Ok(read) = read_line(alloc, first) else {
+            return Err(ScriptError::OutOfMemory);
+        };
+        let Some(line) = read else {
             return Err(ScriptError::BadLine(number));
         };
-        let Ok(added) = draft.add(alloc, first_word(first), line) else {
+        let Ok(added) = draft.add(alloc, key(first), line) else {
             return Err(ScriptError::OutOfMemory);
         };
         if !added {

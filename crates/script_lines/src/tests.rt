@@ -1,3 +1,6 @@
+mod answer_lines;
+mod setting_lines;
+
 use super::*;
 use std::test::Fail;
 
@@ -76,7 +79,7 @@ fn a_script_has_settings_and_calls(rt: HostRuntime) -> Result<(), Fail> {
         Action::Receive,
     ];
     assert_eq!(rt; script.calls.as_slice(), calls.as_slice());
-    let enc = script.config().enc;
+    let enc = script.config()?.enc;
     assert_eq!(rt; (enc.width, enc.height), (64, 80));
     let interval = (enc.min_key_frame_interval, enc.max_key_frame_interval);
     assert_eq!(rt; interval, (3, 715_827_882));

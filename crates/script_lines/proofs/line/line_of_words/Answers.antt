@@ -1,7 +1,7 @@
 use Rattle.std.proofs.Common.{◌≡◌, ◌∷◌, sym}
 use Rattle.script_lines.specs.Lines.{parts}
 use Rattle.script_lines.proofs.LineWords.{too_many}
-use Rattle.script_lines.proofs.line.line_by_words.Goals as goal
+use Rattle.script_lines.proofs.line.line_of_words.Goals as goal
 
 pub returns-in-Some-rest-2 : goal.returns-in-Some-rest-2
 returns-in-Some-rest-2 c =
