@@ -1,3 +1,5 @@
 pub mod Answered
-pub mod CarriedLemmas
+pub mod Carrying
 pub mod CommandWords
+pub mod NoBitrate
+pub mod ScriptConfigs

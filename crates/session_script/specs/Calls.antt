@@ -2,10 +2,11 @@
 use Rattle.std.specs.Prelude.{ℕ, ◌*◌, Bool, true, false, Option, None, replicate}
 use Rattle.av1_frame.specs.declared.frame.Plane.{Plane}
 use Rattle.av1_frame.specs.declared.frame.Frame.{Frame}
+use Rattle.av1_frame.specs.declared.sampling.ChromaSampling.{ChromaSampling}
 use Rattle.av1_frame.specs.Sizes.{chroma_size}
 use Rattle.av1_settings.specs.declared.encoder.EncoderConfig.{EncoderConfig}
 use Rattle.script_lines.specs.declared.line.Action.{Action}
-use Rattle.script_lines.specs.declared.line.Action.TheVariants.{Send as SendAction, SendKey, Flush as FlushAction, Receive as ReceiveAction}
+use Rattle.script_lines.specs.declared.line.Action.TheVariants.{Send as SendAction, SendKey, SendSize, Flush as FlushAction, Receive as ReceiveAction}
 use Rattle.session_core.specs.declared.call.Call.{Call}
 use Rattle.session_core.specs.declared.call.Call.TheVariants.{Send, Flush, Receive}
 use Rattle.session_core.specs.Turns.{asks_key, opaque_of}
@@ -26,17 +27,22 @@ asked_by Receive = Receives
 abbrev pub plain_plane : ℕ × ℕ → Plane ℕ
 plain_plane size = record { pixels = replicate (size.0 * size.1) 0; width = size.0; height = size.1 }
 
--- the picture of the settings' size that plain frames share
-abbrev pub plain_picture : EncoderConfig → Frame ℕ
-plain_picture enc = record {
-  y = plain_plane (enc.width, enc.height);
-  u = plain_plane (chroma_size enc.width enc.height enc.chroma_sampling);
-  v = plain_plane (chroma_size enc.width enc.height enc.chroma_sampling);
+-- a picture of this size and sampling
+abbrev pub plain_picture : ℕ → ℕ → ChromaSampling → Frame ℕ
+plain_picture width height sampling = record {
+  y = plain_plane (width, height);
+  u = plain_plane (chroma_size width height sampling);
+  v = plain_plane (chroma_size width height sampling);
 }
 
--- what a line of a script asks for; no value is sent with a plain frame
-abbrev pub asked_for : Frame ℕ → Action → Asked
-asked_for picture SendAction = Sends picture false None
-asked_for picture SendKey = Sends picture true None
-asked_for picture FlushAction = Flushes
-asked_for picture ReceiveAction = Receives
+-- the picture of the settings' size that plain frames share
+abbrev pub own_picture : EncoderConfig → Frame ℕ
+own_picture enc = plain_picture enc.width enc.height enc.chroma_sampling
+
+-- what a line of a script asks for; no value is sent with a frame, and one of another size has the settings' sampling
+abbrev pub asked_for : EncoderConfig → Action → Asked
+asked_for enc SendAction = Sends (own_picture enc) false None
+asked_for enc SendKey = Sends (own_picture enc) true None
+asked_for enc (SendSize width height) = Sends (plain_picture width height enc.chroma_sampling) false None
+asked_for enc FlushAction = Flushes
+asked_for enc ReceiveAction = Receives

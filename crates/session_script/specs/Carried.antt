@@ -1,80 +1,122 @@
--- What the program says of the session that it ran: why a configuration is refused, and what a transcript is. These are
--- the session's own words; the outcomes of a run cite them from here alone.
-use Rattle.std.specs.Prelude.{◌≡◌, ℕ, if◌then◌else◌, List, map, Option, None, Some, is_some, Result, Ok, Err}
+-- What the program says of the session that it ran: why a summary or a configuration is refused, and what a transcript is.
+-- These are the session's own words; the outcomes of a run cite them from here alone.
+use Rattle.std.specs.Prelude.{◌≡◌, ◌≢◌, ℕ, Bool, true, IsTrue, ◌||◌, if◌then◌else◌, min, List, [], map, Option, None, Some, is_some, Result, Ok, Err}
+use Rattle.std.specs.List.{list_any, reduce}
 use Rattle.std.specs.Option.{option_map}
 use Rattle.av1_settings.specs.declared.invalid.InvalidConfig.{InvalidConfig}
+use Rattle.av1_settings.specs.declared.rate_control.RateControlConfig.{RateControlConfig}
 use Rattle.av1_settings.specs.Checks.{session_refusal}
+use Rattle.av1_settings.specs.Defaults.{default_rate_control}
 use Rattle.av1_settings.specs.Invalid.{number_of}
+use Rattle.script_lines.specs.declared.answer.Print.{Print}
+use Rattle.script_lines.specs.declared.answer.Print.TheVariants.{Bytes as PrintBytes}
 use Rattle.script_lines.specs.declared.script.Script.{Script}
-use Rattle.script_lines.specs.Grammar.{config_of}
+use Rattle.script_lines.specs.Grammar.{IsRateControl, config_of, summary_refusal}
+use Rattle.script_lines.specs.SettingLines.{encoder_of}
 use Rattle.scripted.specs.declared.coder.ScriptedCoder.{ScriptedCoder}
-use Rattle.scripted.specs.CoderLog.{coder_told, coder_faults}
+use Rattle.scripted.specs.declared.detector.ScriptedDetector.{ScriptedDetector}
+use Rattle.scripted.specs.CoderLog.{coder_fails_after, coder_gives, coder_told}
+use Rattle.scripted.specs.DetectorLog.{detector_answers, detector_told, is_cut}
 use Rattle.scripted.specs.NoLevels.{no_levels}
 use Rattle.scripted.specs.ScriptedBytes.{scripted_bytes}
 use Rattle.session_core.specs.declared.call.Call.{Call}
 use Rattle.session_core.specs.declared.transcript.Transcript.{Transcript}
 use Rattle.session_core.specs.Answers.{FailsAt}
-use Rattle.session_core.specs.Sessions.{IsSessionRun, entries_of}
+use Rattle.session_core.specs.Sessions.{IsSessionRun}
 use Rattle.session_core.specs.Told.{Heard}
-use Rattle.session_script.specs.Calls.{asked_by, asked_for, plain_picture}
+use Rattle.session_text.specs.declared.report.ReportOptions.{ReportOptions}
+use Rattle.session_script.specs.declared.run.TheConstants.{CORRUPTED}
+use Rattle.session_script.specs.Calls.{asked_by, asked_for}
 
--- a coder before and after: what it tells of the calls that gave bytes, and how often it failed
-pub record CoderSpan : Type 0 where
-  pub told : Heard ℕ
-  pub told_after : Heard ℕ
-  pub faults : ℕ
-  pub faults_after : ℕ
-
-abbrev pub coder_span : ScriptedCoder → ScriptedCoder → CoderSpan
-coder_span before after = record {
-  told = record { coder = coder_told before };
-  told_after = record { coder = coder_told after };
-  faults = coder_faults before;
-  faults_after = coder_faults after;
+-- what the coder and the detector of a run tell
+abbrev pub heard_of : ScriptedCoder → ScriptedDetector → Heard ℕ
+heard_of coder detector = record {
+  coder = coder_told coder;
+  gives = coder_gives coder;
+  fails_after = coder_fails_after coder;
+  detector = detector_told detector;
+  answers = detector_answers detector;
 }
 
--- why a script's configuration is refused: the program's pixels have 8 bits, and its tables define no level
-abbrev pub script_refusal : Script → Option InvalidConfig
-script_refusal script = session_refusal 8 no_levels (config_of script)
+-- what they tell before the session of a script: no call yet; the coder gives the bytes that the script sets, and its first
+-- call that fails is that of the least fault number; the detector answers yes at exactly the cuts
+abbrev pub heard_first : Script → Heard ℕ
+heard_first script = record {
+  coder = Some [];
+  gives = Some (scripted_bytes script.byte_counts);
+  fails_after = Some (reduce min script.faults);
+  detector = Some [];
+  answers = Some (is_cut script.cuts);
+}
+
+-- what a script has its report print besides
+abbrev pub asks_bytes : Print → Bool
+asks_bytes PrintBytes = true
+
+abbrev pub options_of : Script → ReportOptions
+options_of script = record { bytes = list_any asks_bytes script.prints }
+
+-- why the configuration of a script is refused, with this rate control: the program's pixels have 8 bits, and its tables
+-- define no level
+abbrev pub script_refusal : Script → RateControlConfig → Option InvalidConfig
+script_refusal script rate_control = session_refusal 8 no_levels (config_of script rate_control)
+
+-- a script gives no summary, and its configuration is not refused
+pub record IsValidScript (script : Script) : Type 0 where
+  pub one_pass : script.summary ≡ None
+  pub valid : script_refusal script default_rate_control ≡ None
 
 -- these are the calls of a script, all plain frames being one picture
 abbrev pub AreCallsOf : Script → List (Call ℕ ℕ) → Type 0
 AreCallsOf script calls =
-    map asked_by calls ≡ map (asked_for (plain_picture (config_of script).enc)) script.calls
+    map asked_by calls ≡ map (asked_for (encoder_of script.settings)) script.calls
 
--- a session carried out the calls of a script with its configuration; its coder took what was coded, and gave the
--- script's bytes
-pub record CarriesOut (coder : CoderSpan) (script : Script) (transcript : Transcript ℕ ℕ) : Type 0 where
-  pub valid : script_refusal script ≡ None
+-- a session carried out the calls of a script with its configuration, coder and detector, which tell this afterwards
+pub record CarriesOut (heard : Heard ℕ) (script : Script) (transcript : Transcript ℕ ℕ) : Type 0 where
+  pub valid : IsValidScript script
   pub calls : List (Call ℕ ℕ)
   pub asked : AreCallsOf script calls
-  pub session : IsSessionRun (config_of script).enc calls transcript coder.told coder.told_after
-  pub bytes : map (λ entry. entry.bytes) (entries_of transcript.turns)
-      ≡ map (λ entry. scripted_bytes entry.command) (entries_of transcript.turns)
+  pub session : IsSessionRun (encoder_of script.settings) calls transcript (heard_first script) heard
 
 -- a session carried out the calls of a script up to the receive in which its coder failed
-pub record StopsAt (coder : CoderSpan) (script : Script) (command : ℕ) : Type 0 where
-  pub valid : script_refusal script ≡ None
+pub record StopsAt (heard : Heard ℕ) (script : Script) (command : ℕ) : Type 0 where
+  pub valid : IsValidScript script
   pub calls : List (Call ℕ ℕ)
   pub asked : AreCallsOf script calls
-  pub fails : FailsAt (config_of script).enc calls coder.told coder.told_after command
+  pub fails : FailsAt (encoder_of script.settings) calls (heard_first script) heard command
 
 -- ---- of bytes, by what they are as a script
 
-abbrev pub IsCarriedOut : CoderSpan → Transcript ℕ ℕ → Result Script ℕ → Type 0
-IsCarriedOut coder transcript (Ok script) = CarriesOut coder script transcript
-IsCarriedOut coder transcript (Err line) = ⊥
+-- a session carried it out, and these are its print options
+abbrev pub IsCarriedOut : Heard ℕ → Transcript ℕ ℕ → ReportOptions → Result Script ℕ → Type 0
+IsCarriedOut heard transcript options (Ok script) = CarriesOut heard script transcript × (options ≡ options_of script)
+IsCarriedOut heard transcript options (Err line) = ⊥
 
-abbrev pub IsStopped : CoderSpan → ℕ → Result Script ℕ → Type 0
-IsStopped coder command (Ok script) = StopsAt coder script command
-IsStopped coder command (Err line) = ⊥
+abbrev pub IsStopped : Heard ℕ → ℕ → Result Script ℕ → Type 0
+IsStopped heard command (Ok script) = StopsAt heard script command
+IsStopped heard command (Err line) = ⊥
+
+-- the summary is refused, by the error of this number
+abbrev pub HasRefusedSummary : ℕ → Result Script ℕ → Type 0
+HasRefusedSummary number (Ok script) = (number ≡ CORRUPTED) × IsTrue (is_some (summary_refusal script))
+HasRefusedSummary number (Err line) = ⊥
 
 -- the configuration is refused, by the refusal of this number
 abbrev pub IsRefused : ℕ → Result Script ℕ → Type 0
-IsRefused number (Ok script) = option_map number_of (script_refusal script) ≡ Some number
+IsRefused number (Ok script) =
+    (rate_control : RateControlConfig) × IsRateControl script.summary rate_control
+    × (option_map number_of (script_refusal script rate_control) ≡ Some number)
 IsRefused number (Err line) = ⊥
 
--- the status where nothing fails
+-- the status where neither coder nor sink fails; a run is a session in one pass, so it takes no summary
 abbrev pub status_for_script : Result Script ℕ → ℕ
-status_for_script (Ok script) = if is_some (script_refusal script) then 4 else 0
+status_for_script (Ok script) =
+    if is_some (summary_refusal script) then 10
+    else if is_some script.summary || is_some (script_refusal script default_rate_control) then 4
+    else 0
 status_for_script (Err line) = 3
+
+-- a script names a call that its coder is to fail
+abbrev pub NamesFault : Result Script ℕ → Type 0
+NamesFault (Ok script) = script.faults ≢ []
+NamesFault (Err line) = ⊥

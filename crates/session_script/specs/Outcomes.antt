@@ -7,26 +7,28 @@ use Rattle.byte_streams.specs.Streams.{GrowsByPart, IsTooLong, ReadsAll, TakesAt
 use Rattle.script_lines.specs.declared.script.Script.{Script}
 use Rattle.script_lines.specs.Grammar.{script_of}
 use Rattle.session_core.specs.declared.transcript.Transcript.{Transcript}
+use Rattle.session_core.specs.Told.{Heard}
 use Rattle.session_text.specs.ReportLines.{report}
 use Rattle.session_script.specs.declared.outcome.Outcome.{Outcome}
-use Rattle.session_script.specs.declared.outcome.Outcome.TheVariants.{WrongWords, Unreadable, TooLong, BadLine, Refused, CoderFault, Done, Unwritten, OutOfMemory}
+use Rattle.session_script.specs.declared.outcome.Outcome.TheVariants.{WrongWords, Unreadable, TooLong, BadLine, RefusedPassData, Refused, CoderFault, Done, Unwritten, OutOfMemory}
 use Rattle.session_script.specs.declared.outcome.Report.{Report}
 use Rattle.session_script.specs.declared.run.TheConstants.{MOST_BYTES}
-use Rattle.session_script.specs.Carried.{CoderSpan, IsCarriedOut, IsRefused, IsStopped, status_for_script}
+use Rattle.session_script.specs.Carried.{HasRefusedSummary, IsCarriedOut, IsRefused, IsStopped, NamesFault, status_for_script}
 use Rattle.session_script.specs.Words.{AskForRun}
 
 -- ---- what an outcome answers
 
 abbrev pub status_of : Outcome → ℕ
-status_of (Done transcript) = 0
+status_of (Done transcript options) = 0
 status_of WrongWords = 2
 status_of (BadLine line) = 3
 status_of (Refused number) = 4
 status_of Unreadable = 5
-status_of (Unwritten transcript) = 6
+status_of (Unwritten transcript options) = 6
 status_of TooLong = 7
 status_of (CoderFault command) = 8
 status_of OutOfMemory = 9
+status_of (RefusedPassData number) = 10
 
 abbrev pub line_of : Outcome → Option ℕ
 line_of (BadLine line) = Some line
@@ -41,8 +43,8 @@ command_of (CoderFault command) = Some command
 command_of outcome = None
 
 abbrev pub transcript_of : Outcome → Option (Transcript ℕ ℕ)
-transcript_of (Done transcript) = Some transcript
-transcript_of (Unwritten transcript) = Some transcript
+transcript_of (Done transcript options) = Some transcript
+transcript_of (Unwritten transcript options) = Some transcript
 transcript_of outcome = None
 
 abbrev pub report_of : Outcome → Report
@@ -56,16 +58,17 @@ report_of outcome = record {
 
 -- the text of an outcome; of some there is none
 abbrev pub text_of : Outcome → List ℕ
-text_of (Done transcript) = report transcript.turns
-text_of (Unwritten transcript) = report transcript.turns
+text_of (Done transcript options) = report options transcript.turns
+text_of (Unwritten transcript options) = report options transcript.turns
 text_of (BadLine line) = codes "script line " ++ (decimal line ++ 10 ∷ [])
+text_of (RefusedPassData number) = codes "pass data " ++ (decimal number ++ 10 ∷ [])
 text_of (Refused number) = codes "invalid config " ++ (decimal number ++ 10 ∷ [])
 text_of (CoderFault command) = codes "coder fault " ++ (decimal command ++ 10 ∷ [])
 text_of outcome = []
 
 -- the outcome where the sink failed while the text was written
 abbrev pub cut_short : Outcome → Outcome
-cut_short (Done transcript) = Unwritten transcript
+cut_short (Done transcript options) = Unwritten transcript options
 cut_short outcome = outcome
 
 abbrev pub is_silent : Outcome → Bool
@@ -101,39 +104,43 @@ ReadsScript source P =
     ReadsAll MOST_BYTES source.known source.known_after (λ bytes. P (script_of bytes))
 
 -- what bytes came to as a script
-abbrev pub IsScriptOutcome : CoderSpan → Result Script ℕ → Outcome → Type 0
-IsScriptOutcome coder script (BadLine line) = script ≡ Err line
-IsScriptOutcome coder script (Refused number) = IsRefused number script
-IsScriptOutcome coder script (CoderFault command) = IsStopped coder command script
-IsScriptOutcome coder script (Done transcript) = IsCarriedOut coder transcript script
-IsScriptOutcome coder script OutOfMemory = ⊤
-IsScriptOutcome coder script outcome = ⊥
+abbrev pub IsScriptOutcome : Heard ℕ → Result Script ℕ → Outcome → Type 0
+IsScriptOutcome heard script (BadLine line) = script ≡ Err line
+IsScriptOutcome heard script (RefusedPassData number) = HasRefusedSummary number script
+IsScriptOutcome heard script (Refused number) = IsRefused number script
+IsScriptOutcome heard script (CoderFault command) = IsStopped heard command script
+IsScriptOutcome heard script (Done transcript options) = IsCarriedOut heard transcript options script
+IsScriptOutcome heard script OutOfMemory = ⊤
+IsScriptOutcome heard script outcome = ⊥
 
 -- what a source came to, before a text was written
-abbrev pub IsSourceOutcome : Span → CoderSpan → Outcome → Type 0
-IsSourceOutcome source coder Unreadable = HasFault source
-IsSourceOutcome source coder TooLong = IsTooLong MOST_BYTES source.known source.known_after
-IsSourceOutcome source coder OutOfMemory = ⊤
-IsSourceOutcome source coder WrongWords = ⊥
-IsSourceOutcome source coder (Unwritten transcript) = ⊥
-IsSourceOutcome source coder outcome =
-    ReadsScript source (λ script. IsScriptOutcome coder script outcome)
+abbrev pub IsSourceOutcome : Span → Heard ℕ → Outcome → Type 0
+IsSourceOutcome source heard Unreadable = HasFault source
+IsSourceOutcome source heard TooLong = IsTooLong MOST_BYTES source.known source.known_after
+IsSourceOutcome source heard OutOfMemory = ⊤
+IsSourceOutcome source heard WrongWords = ⊥
+IsSourceOutcome source heard (Unwritten transcript options) = ⊥
+IsSourceOutcome source heard outcome =
+    ReadsScript source (λ script. IsScriptOutcome heard script outcome)
 
 -- each outcome comes only so
-abbrev pub IsOutcome : List (String Global) → Span → CoderSpan → Outcome → Type 0
-IsOutcome words source coder WrongWords = ¬ AskForRun words
-IsOutcome words source coder (Unwritten transcript) = IsSourceOutcome source coder (Done transcript)
-IsOutcome words source coder outcome = IsSourceOutcome source coder outcome
+abbrev pub IsOutcome : List (String Global) → Span → Heard ℕ → Outcome → Type 0
+IsOutcome words source heard WrongWords = ¬ AskForRun words
+IsOutcome words source heard (Unwritten transcript options) = IsSourceOutcome source heard (Done transcript options)
+IsOutcome words source heard outcome = IsSourceOutcome source heard outcome
 
--- the status for a source's bytes, where nothing fails
+-- the status for a source's bytes, where neither coder nor sink fails
 abbrev pub status_for : List ℕ → ℕ
 status_for bytes =
     if nat_lt MOST_BYTES (length bytes) then 7 else status_for_script (script_of bytes)
 
--- the status is the one wanted; or memory ran out; or the sink failed while the report was written
-abbrev pub IsStatus : Span → ℕ → ℕ → Type 0
-IsStatus sink wanted status =
-    (status ≡ wanted) ⊎ (status ≡ 9) ⊎ ((wanted ≡ 0) × (status ≡ 6) × HasFault sink)
+-- the status is the one that the bytes ask for; or memory ran out; or, in place of 0, the sink failed while the report was
+-- written, or the coder failed, at a call that the script names
+abbrev pub IsStatus : Span → List ℕ → ℕ → Type 0
+IsStatus sink bytes status =
+    (status ≡ status_for bytes) ⊎ (status ≡ 9)
+    ⊎ ((status_for bytes ≡ 0) × (status ≡ 6) × HasFault sink)
+    ⊎ ((status_for bytes ≡ 0) × (status ≡ 8) × NamesFault (script_of bytes))
 
 -- what a sink was given for an outcome
 pub record IsWritten (sink : Span) (outcome : Outcome) : Type 0 where
@@ -152,28 +159,25 @@ pub record IsWritten (sink : Span) (outcome : Outcome) : Type 0 where
 abbrev pub IsTold : Outcome → Outcome → Type 0
 IsTold outcome told = (told ≡ outcome) ⊎ (told ≡ OutOfMemory) ⊎ (told ≡ cut_short outcome)
 
--- a run of the program over a source, a sink and a coder, and what it came to
+-- a run of the program over a source and a sink, what its coder and its detector tell afterwards, and what it came to
 pub record IsRun
-    (words : List (String Global)) (source sink : Span) (coder : CoderSpan) (outcome : Outcome)
+    (words : List (String Global)) (source sink : Span) (heard : Heard ℕ) (outcome : Outcome)
     : Type 0 where
   -- the words alone decide whether there is a run
   pub runs : (status_of outcome ≡ 2) ↔ ¬ AskForRun words
   -- each outcome comes only where its cause is
-  pub cause : IsOutcome words source coder outcome
+  pub cause : IsOutcome words source heard outcome
   -- where the source doesn't fail, its bytes decide the status
   pub exact : AskForRun words → ¬ HasFault source →
-      IfSome source.known (λ bytes. IsStatus sink (status_for bytes) (status_of outcome))
-  -- the program's coder never fails
-  pub able : command_of outcome ≡ None
+      IfSome source.known (λ bytes. IsStatus sink bytes (status_of outcome))
   -- what is read, and written
   pub reads : TakesAtMost (MOST_BYTES + 1) source.known source.known_after
   pub reads_later : source.faults ≤ source.faults_after
   pub writes : IsWritten sink outcome
 
--- what the program answers: the report of a run with its own coder, which was asked for nothing before
+-- what the program answers: the report of a run with a coder and a detector of its own
 pub record IsAnswer (words : List (String Global)) (source sink : Span) (answer : Report) : Type 0 where
   pub outcome : Outcome
-  pub coder : CoderSpan
+  pub heard : Heard ℕ
   pub is : answer ≡ report_of outcome
-  pub fresh : coder.told.coder ≡ Some []
-  pub run : IsRun words source sink coder outcome
+  pub run : IsRun words source sink heard outcome

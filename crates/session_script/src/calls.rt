@@ -1,7 +1,7 @@
 ghost use Rattle.std.specs.Prelude.{◌≡◌, ◌≤◌, map, IfOk, IfSome};
-ghost use Rattle.session_script.specs.Calls.{asked_by, asked_for, plain_picture};
+ghost use Rattle.session_script.specs.Calls.{asked_by, asked_for, own_picture, plain_picture};
 
-use av1_frame::Frame;
+use av1_frame::{ChromaSampling, Frame};
 use av1_settings::EncoderConfig;
 use coding_base::OutOfMemory;
 use script_lines::Action;
@@ -13,7 +13,7 @@ use std::sync::Arc;
 type Picture = Arc<Frame<u8>>;
 
 /// The calls that a script asks for. Its plain frames share one picture of the settings' size, which is made for the first
-/// of them.
+/// of them; a frame of another size has a picture of its own, with the settings' sampling of chroma.
 pub fn session_calls(
     alloc: Global,
     enc: &EncoderConfig,
@@ -22,7 +22,7 @@ pub fn session_calls(
     requires wide { enc.now.width ≤ 65535 }
     requires high { enc.now.height ≤ 65535 }
     ensures { IfOk result (λ calls.
-        map asked_by calls.items ≡ map (asked_for (plain_picture enc.now)) actions.now) }
+        map asked_by calls.items ≡ map (asked_for enc.now) actions.now) }
 {
     let mut picture = None;
     let mut calls = Vec::new(alloc);
@@ -40,9 +40,9 @@ fn session_call(
 ) -> Result<Call<u8, u64>, OutOfMemory>
     requires wide { enc.now.width ≤ 65535 }
     requires high { enc.now.height ≤ 65535 }
-    requires made { IfSome picture.old (λ made. made.value ≡ plain_picture enc.now) }
-    ensures call { IfOk result (λ call. asked_by call ≡ asked_for (plain_picture enc.now) action) }
-    ensures made { IfSome picture.new (λ made. made.value ≡ plain_picture enc.now) }
+    requires made { IfSome picture.old (λ made. made.value ≡ own_picture enc.now) }
+    ensures call { IfOk result (λ call. asked_by call ≡ asked_for enc.now action) }
+    ensures made { IfSome picture.new (λ made. made.value ≡ own_picture enc.now) }
 {
     match action {
         Action::Send => Ok(Call::Send(shared_picture(alloc, enc, picture)?, None)),
@@ -53,6 +53,11 @@ fn session_call(
                 opaque: None,
             }),
         )),
+        Action::SendSize { width, height } => {
+            let (width, height) = (width as usize, height as usize);
+            let picture = plain_picture(alloc, width, height, enc.chroma_sampling)?;
+            Ok(Call::Send(picture, None))
+        }
         Action::Flush => Ok(Call::Flush),
         Action::Receive => Ok(Call::Receive),
     }
@@ -66,23 +71,28 @@ fn shared_picture(
 ) -> Result<Picture, OutOfMemory>
     requires wide { enc.now.width ≤ 65535 }
     requires high { enc.now.height ≤ 65535 }
-    requires made { IfSome picture.old (λ made. made.value ≡ plain_picture enc.now) }
-    ensures shared { IfOk result (λ shared. shared.value ≡ plain_picture enc.now) }
-    ensures made { IfSome picture.new (λ made. made.value ≡ plain_picture enc.now) }
+    requires made { IfSome picture.old (λ made. made.value ≡ own_picture enc.now) }
+    ensures shared { IfOk result (λ shared. shared.value ≡ own_picture enc.now) }
+    ensures made { IfSome picture.new (λ made. made.value ≡ own_picture enc.now) }
 {
     if let Some(made) = picture {
         return Ok(made.clone()?);
     }
-    let made = plain_picture(alloc, enc)?;
+    let made = plain_picture(alloc, enc.width, enc.height, enc.chroma_sampling)?;
     *picture = Some(made.clone()?);
     Ok(made)
 }
 
-fn plain_picture(alloc: Global, enc: &EncoderConfig) -> Result<Picture, OutOfMemory>
-    requires wide { enc.now.width ≤ 65535 }
-    requires high { enc.now.height ≤ 65535 }
-    ensures { IfOk result (λ made. made.value ≡ plain_picture enc.now) }
+fn plain_picture(
+    alloc: Global,
+    width: usize,
+    height: usize,
+    sampling: ChromaSampling,
+) -> Result<Picture, OutOfMemory>
+    requires wide { width ≤ 65535 }
+    requires high { height ≤ 65535 }
+    ensures { IfOk result (λ made. made.value ≡ plain_picture width height sampling) }
 {
-    let frame = Frame::new(alloc, enc.width, enc.height, enc.chroma_sampling)?;
+    let frame = Frame::new(alloc, width, height, sampling)?;
     Ok(Arc::new(alloc, frame)?)
 }

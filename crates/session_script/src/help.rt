@@ -14,21 +14,50 @@ A script has a line for each setting, and then lines for the calls. A line is a
 word and its numbers, with one space between two and none before or behind, and
 ends with a line feed alone; the last line may lack it. A tab or a carriage
 return makes a line wrong. Empty lines, and lines that begin with #, are skipped.
-A number has 1 to 20 decimal digits and no sign, and is at most 2^64 - 1.
+A number has 1 to 20 decimal digits and no sign, and is at most 2^64 - 1, that of
+preset, level or minq 255, and that of reservoir 2^31 - 1.
 
-Settings, each at most once and before the first call:
-  size W H            frames of W by H samples, each 16 to 65535 (640 480)
+Settings, before the first call, in any order, each at most once but those
+marked *:
+  preset N            speed preset, from 0, the slowest, to 10, above as 10 (6);
+                      what rdo and multiref say goes before it
+  rdo N               frames of lookahead, 1 to 2^64 - 2 (the preset's)
+  multiref B          with lowlatency, 1: several references a frame, 0: one
+                      (the preset's)
+  size W H            frames of W by H samples, each 16 to 65535, with still
+                      1 to 65535 (640 480)
+  aspect N D          width over height of a sample, N and D above 0 (1 1)
+  timebase N D        seconds from a frame to the next, N and D each 1 to
+                      2^32 - 1 (1 30)
+  depth N             bits of a sample: 8, as the program's samples have (8)
+  chroma C            sampling of chroma: 420, 422, 444 or 400 (420)
   keyint MIN MAX      least and greatest distance of two key frames (12 240);
                       MAX is at most 715827882, and 0 stands for that;
                       MIN changes nothing
-  rdo N               frames of lookahead, 1 to 2^64 - 2 (20)
-  lowlatency          codes frames in the order in which they come
   switch N            every Nth frame behind a key frame is a switch frame,
                       with lowlatency alone (0, none)
+  lowlatency          codes frames in the order in which they come
+  still               codes a single frame
+  timing              timing information in the stream, not with still
+  level N             level to be kept to: 31, none, since the program has no
+                      table of levels (none)
+  quantizer N         base quantizer index, 0 to 255 (100)
+  minq N              least quantizer index, 0 to 255 (0)
+  reservoir N         frames that the bit reservoir evens out, 12 to 131072
+                      (follows from keyint)
+  summary HEX         a first pass's summary, 2 to 400 digits 0-9a-f, two for a
+                      byte; refused in a run, which has one pass (none)
+  cut P *             a scene begins with frame P, which is a key frame (none)
+  bytes P N *         frame P has N bytes, 1 to 4096; the last line for P counts
+                      (100 for a key frame, 20 for any other)
+  fault K *           the coder fails its call K, from 0, shows counted (none)
+  print bytes         prints each packet's bytes behind its line (off)
 
 Calls, at most 100000 in all, with an N of at least 1:
   send, send N        sends one frame, or N
   sendkey             sends one frame as a key frame
+  sendsize W H        sends one frame of W by H samples, each 1 to 64, which is
+                      refused where the frames have another size
   flush               says that no further frame comes
   receive, receive N  asks for one packet, or N
 
@@ -37,12 +66,17 @@ Status:
   2   the words after the program's name aren't one of those above
   3   script line K: line K, the first being 1, is wrong, or can't stand there
   4   invalid config N: a setting is out of its range, 1 the width, 2 the
-      height, 7 the lookahead, 8 the greatest distance of key frames, or
-      14 there are switch frames without lowlatency
+      height, 3 and 4 the aspect, 5 and 6 the size as it is to be shown, 7 the
+      lookahead, 8 the greatest distance of key frames, 11 and 12 the time
+      base, 13 the reservoir, 19 the level, 21 the quantizer, 22 the depth; or
+      14 there are switch frames without lowlatency, 15 timing with still, or
+      17 there is a summary
   5   standard input can't be read
   6   standard output can't be written
   7   the script has more than 1048576 bytes
+  8   coder fault K: the coder failed, as fault says, behind K commands
   9   memory ran out
+  10  pass data 1: the summary's bytes are no summary
 
 Example:
   printf 'size 64 80\\nsend 4\\nflush\\nreceive 6\\n' | session_script run
@@ -68,21 +102,50 @@ pub const HELP_LINES: &[&str] = &[
     "word and its numbers, with one space between two and none before or behind, and",
     "ends with a line feed alone; the last line may lack it. A tab or a carriage",
     "return makes a line wrong. Empty lines, and lines that begin with #, are skipped.",
-    "A number has 1 to 20 decimal digits and no sign, and is at most 2^64 - 1.",
+    "A number has 1 to 20 decimal digits and no sign, and is at most 2^64 - 1, that of",
+    "preset, level or minq 255, and that of reservoir 2^31 - 1.",
     "",
-    "Settings, each at most once and before the first call:",
-    "  size W H            frames of W by H samples, each 16 to 65535 (640 480)",
+    "Settings, before the first call, in any order, each at most once but those",
+    "marked *:",
+    "  preset N            speed preset, from 0, the slowest, to 10, above as 10 (6);",
+    "                      what rdo and multiref say goes before it",
+    "  rdo N               frames of lookahead, 1 to 2^64 - 2 (the preset's)",
+    "  multiref B          with lowlatency, 1: several references a frame, 0: one",
+    "                      (the preset's)",
+    "  size W H            frames of W by H samples, each 16 to 65535, with still",
+    "                      1 to 65535 (640 480)",
+    "  aspect N D          width over height of a sample, N and D above 0 (1 1)",
+    "  timebase N D        seconds from a frame to the next, N and D each 1 to",
+    "                      2^32 - 1 (1 30)",
+    "  depth N             bits of a sample: 8, as the program's samples have (8)",
+    "  chroma C            sampling of chroma: 420, 422, 444 or 400 (420)",
     "  keyint MIN MAX      least and greatest distance of two key frames (12 240);",
     "                      MAX is at most 715827882, and 0 stands for that;",
     "                      MIN changes nothing",
-    "  rdo N               frames of lookahead, 1 to 2^64 - 2 (20)",
-    "  lowlatency          codes frames in the order in which they come",
     "  switch N            every Nth frame behind a key frame is a switch frame,",
     "                      with lowlatency alone (0, none)",
+    "  lowlatency          codes frames in the order in which they come",
+    "  still               codes a single frame",
+    "  timing              timing information in the stream, not with still",
+    "  level N             level to be kept to: 31, none, since the program has no",
+    "                      table of levels (none)",
+    "  quantizer N         base quantizer index, 0 to 255 (100)",
+    "  minq N              least quantizer index, 0 to 255 (0)",
+    "  reservoir N         frames that the bit reservoir evens out, 12 to 131072",
+    "                      (follows from keyint)",
+    "  summary HEX         a first pass's summary, 2 to 400 digits 0-9a-f, two for a",
+    "                      byte; refused in a run, which has one pass (none)",
+    "  cut P *             a scene begins with frame P, which is a key frame (none)",
+    "  bytes P N *         frame P has N bytes, 1 to 4096; the last line for P counts",
+    "                      (100 for a key frame, 20 for any other)",
+    "  fault K *           the coder fails its call K, from 0, shows counted (none)",
+    "  print bytes         prints each packet's bytes behind its line (off)",
     "",
     "Calls, at most 100000 in all, with an N of at least 1:",
     "  send, send N        sends one frame, or N",
     "  sendkey             sends one frame as a key frame",
+    "  sendsize W H        sends one frame of W by H samples, each 1 to 64, which is",
+    "                      refused where the frames have another size",
     "  flush               says that no further frame comes",
     "  receive, receive N  asks for one packet, or N",
     "",
@@ -91,12 +154,17 @@ pub const HELP_LINES: &[&str] = &[
     "  2   the words after the program's name aren't one of those above",
     "  3   script line K: line K, the first being 1, is wrong, or can't stand there",
     "  4   invalid config N: a setting is out of its range, 1 the width, 2 the",
-    "      height, 7 the lookahead, 8 the greatest distance of key frames, or",
-    "      14 there are switch frames without lowlatency",
+    "      height, 3 and 4 the aspect, 5 and 6 the size as it is to be shown, 7 the",
+    "      lookahead, 8 the greatest distance of key frames, 11 and 12 the time",
+    "      base, 13 the reservoir, 19 the level, 21 the quantizer, 22 the depth; or",
+    "      14 there are switch frames without lowlatency, 15 timing with still, or",
+    "      17 there is a summary",
     "  5   standard input can't be read",
     "  6   standard output can't be written",
     "  7   the script has more than 1048576 bytes",
+    "  8   coder fault K: the coder failed, as fault says, behind K commands",
     "  9   memory ran out",
+    "  10  pass data 1: the summary's bytes are no summary",
     "",
     "Example:",
     "  printf 'size 64 80\\nsend 4\\nflush\\nreceive 6\\n' | session_script run",

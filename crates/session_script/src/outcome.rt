@@ -3,7 +3,7 @@ ghost use Rattle.session_script.specs.Outcomes.{status_of, line_of, config_of, c
 
 use coding_base::OutOfMemory;
 use session_core::Transcript;
-use session_text::report_text;
+use session_text::{ReportOptions, report_text};
 use std::alloc::Global;
 
 /// What the run of a script came to.
@@ -17,14 +17,16 @@ pub enum Outcome {
     TooLong,
     /// The line of this number, from 1, is the first that is no script line.
     BadLine(u64),
+    /// The pass data that the script gives is refused, by the error of this number.
+    RefusedPassData(u8),
     /// The configuration is refused, by the refusal of this number.
     Refused(u8),
     /// The coder failed at the command of this number, from 0.
     CoderFault(u64),
-    /// The calls were carried out, and their report was written.
-    Done(Transcript<u8, u64>),
+    /// The calls were carried out, and their report was written with these options.
+    Done(Transcript<u8, u64>, ReportOptions),
     /// The calls were carried out, and the sink failed while their report was written.
-    Unwritten(Transcript<u8, u64>),
+    Unwritten(Transcript<u8, u64>, ReportOptions),
     /// Memory ran out.
     OutOfMemory,
 }
@@ -50,15 +52,16 @@ impl Outcome {
         ensures { result ≡ status_of self.now }
     {
         match self {
-            Outcome::Done(_) => 0,
+            Outcome::Done(..) => 0,
             Outcome::WrongWords => 2,
             Outcome::BadLine(_) => 3,
             Outcome::Refused(_) => 4,
             Outcome::Unreadable => 5,
-            Outcome::Unwritten(_) => 6,
+            Outcome::Unwritten(..) => 6,
             Outcome::TooLong => 7,
             Outcome::CoderFault(_) => 8,
             Outcome::OutOfMemory => 9,
+            Outcome::RefusedPassData(_) => 10,
         }
     }
 
@@ -93,7 +96,7 @@ impl Outcome {
         ensures { result ≡ transcript_of self }
     {
         match self {
-            Outcome::Done(transcript) | Outcome::Unwritten(transcript) => Some(transcript),
+            Outcome::Done(transcript, _) | Outcome::Unwritten(transcript, _) => Some(transcript),
             _ => None,
         }
     }
@@ -113,10 +116,11 @@ impl Outcome {
         ensures { IfOk result (λ text. string_bytes text ≡ text_of self.now) }
     {
         match self {
-            Outcome::Done(transcript) | Outcome::Unwritten(transcript) => {
-                report_text(alloc, transcript.turns.as_slice())
+            Outcome::Done(transcript, options) | Outcome::Unwritten(transcript, options) => {
+                report_text(alloc, *options, transcript.turns.as_slice())
             }
             Outcome::BadLine(line) => Ok(format!(in alloc; "script line {line}\n")?),
+            Outcome::RefusedPassData(number) => Ok(format!(in alloc; "pass data {number}\n")?),
             Outcome::Refused(number) => Ok(format!(in alloc; "invalid config {number}\n")?),
             Outcome::CoderFault(command) => Ok(format!(in alloc; "coder fault {command}\n")?),
             _ => Ok(String::new(alloc)),
@@ -128,7 +132,7 @@ impl Outcome {
         ensures { result ≡ cut_short self }
     {
         match self {
-            Outcome::Done(transcript) => Outcome::Unwritten(transcript),
+            Outcome::Done(transcript, options) => Outcome::Unwritten(transcript, options),
             outcome => outcome,
         }
     }

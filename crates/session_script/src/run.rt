@@ -1,9 +1,9 @@
-ghost use Rattle.std.specs.Prelude.{◌≡◌, ◌≢◌, ◌+◌, ◌≤◌, false, None, Ok};
+ghost use Rattle.std.specs.Prelude.{◌≡◌, ◌≢◌, ◌+◌, ◌≤◌, OnOk, Ok};
 ghost use Rattle.byte_streams.specs.Streams.{TakesAtMost};
 ghost use Rattle.script_lines.specs.Grammar.{script_of};
-ghost use Rattle.session_script.specs.Carried.{coder_span};
+ghost use Rattle.session_script.specs.Carried.{heard_first, heard_of, options_of};
 ghost use Rattle.session_script.specs.declared.run.TheConstants.{MOST_BYTES};
-ghost use Rattle.session_script.specs.Outcomes.{command_of, IsAnswer, IsRun, IsScriptOutcome, IsSourceOutcome, IsTold, IsWritten, span, status_of};
+ghost use Rattle.session_script.specs.Outcomes.{IsAnswer, IsRun, IsScriptOutcome, IsSourceOutcome, IsTold, IsWritten, span, status_of};
 ghost use Rattle.session_script.specs.Words.{AskForRun};
 
 use crate::calls::session_calls;
@@ -11,20 +11,26 @@ use crate::outcome::{Outcome, Report};
 use crate::words::are_one;
 use av1_frame::Pixel;
 use byte_streams::{ReadError, Sink, Source, read_all, write_all};
-use script_lines::{Script, ScriptError, parse};
-use scripted::{ScriptedCoder, no_levels};
+use coding_base::OutOfMemory;
+use script_lines::{Print, Script, ScriptError, parse};
+use scripted::{ScriptedCoder, ScriptedDetector, no_levels};
 use session_core::{SessionError, run_session};
+use session_text::ReportOptions;
 use std::alloc::Global;
 
 /// The most bytes of a script.
 pub const MOST_BYTES: usize = 1_048_576;
 
+// The number of the error for pass data that is no summary.
+const CORRUPTED: u8 = 1;
+
 /// Runs the script that the source holds, and puts its report into the sink. The words are those of the command line
 /// after the program's name: `run` alone.
 ///
 /// The statuses, in this order: 2 for other words; 5 for a source that fails; 7 for a source of more than 1,048,576 bytes;
-/// 3 for a line outside the grammar, the first of which is named; 4 for a configuration that is refused; 6 for a sink that
-/// fails while the report is written; 0 for a report that is written whole; 9 where memory runs out, at any point.
+/// 3 for a line outside the grammar, the first of which is named; 10 for a summary that is refused; 4 for a configuration that
+/// is refused; 8 for a coder that fails, at a call that the script names; 6 for a sink that fails while the report is written;
+/// 0 for a report that is written whole; 9 where memory runs out, at any point.
 pub fn run_script<R: Source, W: Sink>(
     alloc: Global,
     words: &[String],
@@ -37,63 +43,81 @@ pub fn run_script<R: Source, W: Sink>(
         (source.new ≡ source.old) × (sink.new ≡ sink.old) }
 {
     let mut coder = ScriptedCoder::new(alloc);
-    Report::of(run_with_coder(alloc, words, source, sink, &mut coder))
+    let mut detector = ScriptedDetector::without_cuts(alloc);
+    Report::of(run_with(alloc, words, source, sink, &mut coder, &mut detector))
 }
 
-/// The same with this coder, which says afterwards what it took.
-pub fn run_with_coder<R: Source, W: Sink>(
+/// The same with this coder and this detector, which say afterwards what they were asked for. A session begins with both
+/// made anew, by the rules of the script.
+pub fn run_with<R: Source, W: Sink>(
     alloc: Global,
     words: &[String],
     source: &mut R,
     sink: &mut W,
     coder: &mut ScriptedCoder,
+    detector: &mut ScriptedDetector,
 ) -> Outcome
     ensures outcome { IsRun words.now (span R.left R.faults source.old source.new)
-        (span W.held W.faults sink.old sink.new) (coder_span coder.old coder.new) result }
+        (span W.held W.faults sink.old sink.new) (heard_of coder.new detector.new) result }
     ensures untouched { ¬ AskForRun words.now →
-        (source.new ≡ source.old) × (sink.new ≡ sink.old) × (coder.new ≡ coder.old) }
+        (source.new ≡ source.old) × (sink.new ≡ sink.old)
+        × (coder.new ≡ coder.old) × (detector.new ≡ detector.old) }
 {
     if !are_one(words, "run") {
         return Outcome::WrongWords;
     }
-    let outcome = carry_out(alloc, source, coder);
+    let outcome = carry_out(alloc, source, coder, detector);
     tell(alloc, outcome, sink)
 }
 
 // Reads a script and carries it out.
-fn carry_out<R: Source>(alloc: Global, source: &mut R, coder: &mut ScriptedCoder) -> Outcome
+fn carry_out<R: Source>(
+    alloc: Global,
+    source: &mut R,
+    coder: &mut ScriptedCoder,
+    detector: &mut ScriptedDetector,
+) -> Outcome
     ensures cause { IsSourceOutcome (span R.left R.faults source.old source.new)
-        (coder_span coder.old coder.new) result }
-    ensures able { command_of result ≡ None }
+        (heard_of coder.new detector.new) result }
     ensures reads { TakesAtMost (MOST_BYTES + 1) (R.left source.old) (R.left source.new) }
     ensures later { R.faults source.old ≤ R.faults source.new }
 {
     match read_all(alloc, source, MOST_BYTES) {
-        Ok(bytes) => carry_out_bytes(alloc, &bytes, coder),
+        Ok(bytes) => carry_out_bytes(alloc, &bytes, coder, detector),
         Err(ReadError::Failed) => Outcome::Unreadable,
         Err(ReadError::TooLong) => Outcome::TooLong,
         Err(ReadError::OutOfMemory) => Outcome::OutOfMemory,
     }
 }
 
-fn carry_out_bytes(alloc: Global, bytes: &[u8], coder: &mut ScriptedCoder) -> Outcome
-    ensures outcome { IsScriptOutcome (coder_span coder.old coder.new) (script_of bytes.now)
+fn carry_out_bytes(
+    alloc: Global,
+    bytes: &[u8],
+    coder: &mut ScriptedCoder,
+    detector: &mut ScriptedDetector,
+) -> Outcome
+    ensures outcome { IsScriptOutcome (heard_of coder.new detector.new) (script_of bytes.now)
         result }
-    ensures able { command_of result ≡ None }
 {
     match parse(alloc, bytes) {
-        Ok(script) => carry_out_script(alloc, &script, coder),
+        Ok(script) => carry_out_script(alloc, &script, coder, detector),
         Err(ScriptError::BadLine(line)) => Outcome::BadLine(line),
         Err(ScriptError::OutOfMemory) => Outcome::OutOfMemory,
     }
 }
 
 // Carries out the calls of a script, if its configuration is valid: only then is the picture's size within its bounds.
-fn carry_out_script(alloc: Global, script: &Script, coder: &mut ScriptedCoder) -> Outcome
-    ensures outcome { IsScriptOutcome (coder_span coder.old coder.new) (Ok script.now) result }
-    ensures able { command_of result ≡ None }
+fn carry_out_script(
+    alloc: Global,
+    script: &Script,
+    coder: &mut ScriptedCoder,
+    detector: &mut ScriptedDetector,
+) -> Outcome
+    ensures outcome { IsScriptOutcome (heard_of coder.new detector.new) (Ok script.now) result }
 {
-    let config = script.config();
+    let Ok(config) = script.config() else {
+        return Outcome::RefusedPassData(CORRUPTED);
+    };
     let levels = no_levels();
     if let Err(refusal) = config.validate_for_session(&levels, <u8 as Pixel>::BITS) {
         return Outcome::Refused(refusal.number());
@@ -101,13 +125,44 @@ fn carry_out_script(alloc: Global, script: &Script, coder: &mut ScriptedCoder) -
     let Ok(calls) = session_calls(alloc, &config.enc, script.calls.as_slice()) else {
         return Outcome::OutOfMemory;
     };
-    match run_session(alloc, &config, &levels, coder, calls) {
-        Ok(transcript) => Outcome::Done(transcript),
+    let Ok(()) = begin(alloc, script, coder, detector) else {
+        return Outcome::OutOfMemory;
+    };
+    match run_session(alloc, &config, &levels, detector, coder, calls) {
+        Ok(transcript) => Outcome::Done(transcript, report_options(script)),
         Err(SessionError::CoderFault { command }) => Outcome::CoderFault(command),
         Err(SessionError::OutOfMemory) => Outcome::OutOfMemory,
         // The configuration was found valid above, and no line of a script sets a bitrate.
         Err(SessionError::Invalid(_)) => unreachable!(),
         Err(SessionError::Unbuilt) => unreachable!(),
+    }
+}
+
+// Makes coder and detector anew, by the rules of a script.
+fn begin(
+    alloc: Global,
+    script: &Script,
+    coder: &mut ScriptedCoder,
+    detector: &mut ScriptedDetector,
+) -> Result<(), OutOfMemory>
+    ensures { OnOk result (heard_of coder.new detector.new ≡ heard_first script.now) }
+{
+    let byte_counts = script.byte_counts.as_slice();
+    *coder = ScriptedCoder::with_rules(alloc, byte_counts, script.faults.as_slice())?;
+    *detector = ScriptedDetector::new(alloc, script.cuts.as_slice())?;
+    Ok(())
+}
+
+// What the report has besides.
+fn report_options(script: &Script) -> ReportOptions
+    ensures { result ≡ options_of script.now }
+{
+    ReportOptions {
+        bytes: script
+            .prints
+            .as_slice()
+            .iter()
+            .any(|print| matches!(print, Print::Bytes)),
     }
 }
 

@@ -1,18 +1,20 @@
+mod detector_and_faults;
 mod low_latency;
 mod receives_anywhere;
 mod receives_behind_the_flush;
+mod setting_lines;
 
 use crate::help::HELP_LINES;
 use crate::program::run_program;
-use crate::run::{run_script, run_with_coder};
-use crate::{MemSink, MemSource, Report, ScriptedCoder};
+use crate::run::{run_script, run_with};
+use crate::{MemSink, MemSource, Report, ScriptedCoder, ScriptedDetector};
 use av1_frame::{ChromaSampling, Frame};
 use av1_settings::{Config, EncoderConfig};
 use coding_base::{OutOfMemory, Sequence};
 use receives_behind_the_flush::{ROWS, Row};
 use scripted::no_levels;
-use session_core::{Call, Reply, run_session};
-use session_text::report_text;
+use session_core::{Call, NoDetector, Reply, run_session};
+use session_text::{ReportOptions, report_text};
 use slot_replay::replay;
 use std::alloc::Global;
 use std::sync::Arc;
@@ -71,8 +73,14 @@ fn status(alloc: Global, texts: &[&str], case: &Case<'_>) -> Result<(u8, MemSink
     Ok((status, sink))
 }
 
-fn rows() -> [&'static [Row]; 3] {
-    [&ROWS, &receives_anywhere::ROWS, &low_latency::ROWS]
+fn rows() -> [&'static [Row]; 5] {
+    [
+        &ROWS,
+        &receives_anywhere::ROWS,
+        &low_latency::ROWS,
+        &detector_and_faults::ROWS,
+        &setting_lines::ROWS,
+    ]
 }
 
 #[test]
@@ -85,7 +93,7 @@ fn rows_have_their_reports(rt: HostRuntime) -> Result<(), Fail> {
         assert_eq!(rt; report.transcript.is_some(), row.status == 0, "{name}");
         assert_eq!(rt; report.line.is_some(), row.status == 3, "{name}");
         assert_eq!(rt; report.config.is_some(), row.status == 4, "{name}");
-        assert_eq!(rt; report.command, None, "{name}");
+        assert_eq!(rt; report.command.is_some(), row.status == 8, "{name}");
         let (status, again) = status(rt.alloc(), &["run"], &plain(row.script.as_bytes()))?;
         assert_eq!(rt; status, row.status, "{name}");
         assert_eq!(rt; again.bytes(), row.text.as_bytes(), "{name}");
@@ -141,8 +149,16 @@ fn a_fast_preset_names_one_frame_at_low_latency(rt: HostRuntime) -> Result<(), F
         calls.push(Call::Receive)?;
     }
     let mut coder = ScriptedCoder::new(alloc);
-    let transcript = run_session(alloc, &cfg, &no_levels(), &mut coder, calls)?;
-    let text = report_text(alloc, transcript.turns.as_slice())?;
+    let transcript = run_session(
+        alloc,
+        &cfg,
+        &no_levels(),
+        &mut NoDetector,
+        &mut coder,
+        calls,
+    )?;
+    let options = ReportOptions { bytes: false };
+    let text = report_text(alloc, options, transcript.turns.as_slice())?;
     let wanted = "sent 0\nsent 1\nsent 2\nflushed\n\
         code 0 key refs - refresh 255 shown\n\
         Frame 0 - Key frame - 102 bytes\n\
@@ -154,24 +170,34 @@ fn a_fast_preset_names_one_frame_at_low_latency(rt: HostRuntime) -> Result<(), F
     Ok(())
 }
 
+// What was lent is made anew by the script's rules, and tells what the session asked.
 #[test]
-fn a_lent_coder_codes_the_same(rt: HostRuntime) -> Result<(), Fail> {
+fn a_lent_detector_keeps_its_questions(rt: HostRuntime) -> Result<(), Fail> {
     let alloc = rt.alloc();
-    let case = plain(b"send\nflush\nreceive\n");
-    let mut coder = ScriptedCoder::new(alloc);
+    let case = plain(b"size 16 16\ncut 2\nsend\nsendkey\nsend 2\nflush\nreceive\n");
+    let mut coder = ScriptedCoder::with_rules(alloc, &[], &[0])?;
+    let mut detector = ScriptedDetector::new(alloc, &[1, 3])?;
     let mut sink = case.sink(alloc)?;
     let words = words(alloc, &["run"])?;
-    let outcome = run_with_coder(
+    let outcome = run_with(
         alloc,
         &words,
         &mut case.source(alloc)?,
         &mut sink,
         &mut coder,
+        &mut detector,
     );
     assert_eq!(rt; outcome.status(), 0);
-    let text =
-        "sent 0\nflushed\ncode 0 key refs - refresh 255 shown\nFrame 0 - Key frame - 102 bytes\n";
+    let text = "sent 0\nsent 1\nsent 2\nsent 3\nflushed\n\
+        code 0 key refs - refresh 255 shown\nFrame 0 - Key frame - 102 bytes\n";
     assert_eq!(rt; sink.bytes(), text.as_bytes());
+    let mut asked = Vec::new(alloc);
+    for question in detector.questions() {
+        asked.push((question.position, question.last_key, question.answer))?;
+    }
+    let wanted = [(2, 1, true), (3, 2, false)];
+    assert_eq!(rt; asked.as_slice(), wanted.as_slice());
+    assert_eq!(rt; coder.given().len(), 1);
     Ok(())
 }
 

@@ -7,4 +7,4 @@ mod report;
 mod tests;
 
 pub use command_lines::write_command;
-pub use report::report_text;
+pub use report::{ReportOptions, report_text};

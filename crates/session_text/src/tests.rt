@@ -85,8 +85,10 @@ fn replies_have_their_lines(rt: HostRuntime) -> Result<(), Fail> {
         (Reply::Status(EncoderStatus::OutOfMemory), "out-of-memory\n"),
     ] {
         let turns = turn(alloc, reply, Sequence::new(alloc))?;
-        let text = report_text(alloc, &turns)?;
-        assert_eq!(rt; text.as_str(), line);
+        for bytes in [false, true] {
+            let text = report_text(alloc, ReportOptions { bytes }, &turns)?;
+            assert_eq!(rt; text.as_str(), line);
+        }
     }
     Ok(())
 }
@@ -94,7 +96,7 @@ fn replies_have_their_lines(rt: HostRuntime) -> Result<(), Fail> {
 #[test]
 fn a_packet_stands_behind_its_commands(rt: HostRuntime) -> Result<(), Fail> {
     let alloc = rt.alloc();
-    let bytes: Bytes = Sequence::from_slice(alloc, &[1, 2, 3])?;
+    let bytes: Bytes = Sequence::from_slice(alloc, &[0x12, 0, 0xaf])?;
     let mut log = LogList::new(alloc);
     log.push(LogEntry {
         command: Command::Show { slot: 1 },
@@ -109,7 +111,15 @@ fn a_packet_stands_behind_its_commands(rt: HostRuntime) -> Result<(), Fail> {
         opaque: None,
     };
     let turns = turn(alloc, Reply::Packet(packet), log)?;
-    let text = report_text(alloc, &turns)?;
-    assert_eq!(rt; text.as_str(), "show 1\nFrame 4 - Inter frame - 3 bytes\n");
+    for (bytes, wanted) in [
+        (false, "show 1\nFrame 4 - Inter frame - 3 bytes\n"),
+        (
+            true,
+            "show 1\nFrame 4 - Inter frame - 3 bytes\nbytes 1200af\n",
+        ),
+    ] {
+        let text = report_text(alloc, ReportOptions { bytes }, &turns)?;
+        assert_eq!(rt; text.as_str(), wanted);
+    }
     Ok(())
 }

@@ -3,4 +3,4 @@ use Rattle.session_text.specs.ReportLines.{report}
 use Rattle.session_text.proofs.report.report_text.Given as goal
 
 abbrev pub invariant-loop-turn : goal.invariant-loop-turn
-invariant-loop-turn g l = string_bytes l.text ≡ report (take l.turn-index l.turns)
+invariant-loop-turn g l = string_bytes l.text ≡ report l.options (take l.turn-index l.turns)
