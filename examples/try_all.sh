@@ -59,6 +59,7 @@ for script in *.txt; do
     case $(head -n 1 "$report") in
         "script line "*) status=3 ;;
         "invalid config "*) status=4 ;;
+        "coder fault "*) status=8 ;;
         *) status=0 ;;
     esac
     "$program" run <"$script" >"$work/out" 2>"$work/err"
@@ -134,6 +135,12 @@ head -c 1048576 /dev/zero | tr '\0' '\n' | "$program" run >"$work/out" 2>"$work/
 wanted 'as many bytes as may be' 0 '' $?
 head -c 1048577 /dev/zero | tr '\0' '\n' | "$program" run >"$work/out" 2>"$work/err"
 wanted 'a byte too many' 7 '' $?
+
+# Status 8: a call of the coder that the script names.
+run 'fault 0\nsend\nflush\nreceive\n' run
+wanted 'a coder fault' 8 'coder fault 0\n' $?
+run 'fault 1\nsend\nflush\nreceive\n' run
+wanted 'a fault that is not reached' 0 "$one" $?
 
 # Status 9: no memory for a picture; and none is wanted without a frame.
 (
