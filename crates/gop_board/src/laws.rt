@@ -1,0 +1,15 @@
+//! What holds of every list of steps from the opening on, each law as the contract of a function that does nothing;
+//! `specs/CoreRuns` spells them out.
+
+ghost use Rattle.gop_board.specs.CoreRuns.{JobsAreCollectedInOrder, JobsStandAtOnePlace};
+
+/// Whatever steps are tried, each submitted job stands at exactly one place: queued, held by one worker, deposited or
+/// collected. No other number stands anywhere, and no worker holds two jobs.
+pub fn jobs_stand_at_one_place()
+    ensures { JobsStandAtOnePlace }
+{}
+
+/// Whatever steps are tried, the jobs that they collect are 0, 1, .. in order.
+pub fn jobs_are_collected_in_order()
+    ensures { JobsAreCollectedInOrder }
+{}
