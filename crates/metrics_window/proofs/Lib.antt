@@ -1,0 +1,5 @@
+pub mod Bounds
+pub mod CutLaws
+pub mod MoveLaws
+pub mod TallyLaws
+pub mod WindowLaws

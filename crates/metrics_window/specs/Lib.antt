@@ -1,0 +1,4 @@
+pub mod Cut
+pub mod Moves
+pub mod Tallies
+pub mod Window
