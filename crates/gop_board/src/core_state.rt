@@ -128,7 +128,9 @@ fn next_job(submitted: u64, jobs: u64) -> Option<u64>
 
 // The job that a worker takes, if it holds none and there is one.
 fn taken(worker: u64, held: &[Holding], queued: &VecDeque<u64>) -> Option<u64>
-    ensures { result ≡ (if is_some (held_by worker held.now) then None else slice_get queued.now.items 0) }
+    ensures { result
+        ≡ (if is_some (held_by worker held.now) then None
+        else slice_get queued.now.items 0) }
 {
     if held_by(worker, held).is_some() {
         None
@@ -162,7 +164,8 @@ fn let_go(worker: u64, held: &mut Vec<Holding>)
 
 // A deposited job is taken out.
 fn take_out(job: u64, deposited: &mut Vec<u64>)
-    ensures { deposited.new.items ≡ filter (λ deposited. not (deposited == job)) deposited.old.items }
+    ensures { deposited.new.items
+        ≡ filter (λ deposited. not (deposited == job)) deposited.old.items }
 {
     deposited.retain(|deposited| *deposited != job);
 }

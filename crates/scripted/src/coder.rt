@@ -142,7 +142,8 @@ impl ScriptedCoder {
         ensures told { IfOk result (λ coder. coder_told coder ≡ Some []) }
         ensures gives { IfOk result (λ coder.
             coder_gives coder ≡ Some (scripted_bytes byte_counts.now)) }
-        ensures fails_after { IfOk result (λ coder. coder_fails_after coder ≡ Some (reduce min faults.now)) }
+        ensures fails_after { IfOk result (λ coder.
+            coder_fails_after coder ≡ Some (reduce min faults.now)) }
         ensures faults { IfOk result (λ coder. coder_faults coder ≡ 0) }
     {
         Ok(ScriptedCoder {

@@ -62,7 +62,8 @@ impl<M> LocalQueue<M> {
 
     /// Takes the front. Where there is none: Closed if the queue is closed, else Empty. No memory is taken.
     pub fn try_take(&mut self) -> Result<M, TakeError>
-        ensures { IsTake (local_of self.old).is_closed (local_of self.old) result (local_of self.new) }
+        ensures { IsTake (local_of self.old).is_closed (local_of self.old) result
+            (local_of self.new) }
     {
         self.take_front(self.closed)
     }

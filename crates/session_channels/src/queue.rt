@@ -20,7 +20,8 @@ pub trait Put<M> {
         ensures put { OnOk result (contents self.new ≡ behind message (contents self.old)) }
         ensures kept { OnErr result (contents self.new ≡ contents self.old) }
         ensures back { IfErr result (λ error. given_back error ≡ message) }
-        ensures cause { IfErr result (λ error. HasPutCause (queue self.old) (queue self.new) error) }
+        ensures cause { IfErr result
+            (λ error. HasPutCause (queue self.old) (queue self.new) error) }
         ensures turn { IsTurn (queue self.old) (queue self.new) };
 
     /// The same; a queue that can wait does so in place of answering `Full`.
@@ -28,7 +29,8 @@ pub trait Put<M> {
         ensures put { OnOk result (contents self.new ≡ behind message (contents self.old)) }
         ensures kept { OnErr result (contents self.new ≡ contents self.old) }
         ensures back { IfErr result (λ error. given_back error ≡ message) }
-        ensures cause { IfErr result (λ error. HasPutCause (queue self.old) (queue self.new) error) }
+        ensures cause { IfErr result
+            (λ error. HasPutCause (queue self.old) (queue self.new) error) }
         ensures turn { IsTurn (queue self.old) (queue self.new) };
 
     /// Closes the queue. The messages in it stay.
@@ -56,7 +58,8 @@ pub trait Take<M> {
         ensures taken { IfOk result
             (λ front. contents self.old ≡ before_all front (contents self.new)) }
         ensures kept { OnErr result (contents self.new ≡ contents self.old) }
-        ensures cause { IfErr result (λ error. HasTakeCause (queue self.old) (queue self.new) error) }
+        ensures cause { IfErr result
+            (λ error. HasTakeCause (queue self.old) (queue self.new) error) }
         ensures turn { IsTurn (queue self.old) (queue self.new) };
 
     /// The same; a queue that can wait does so in place of answering `Empty`, and none answers that.
@@ -64,7 +67,8 @@ pub trait Take<M> {
         ensures taken { IfOk result
             (λ front. contents self.old ≡ before_all front (contents self.new)) }
         ensures kept { OnErr result (contents self.new ≡ contents self.old) }
-        ensures cause { IfErr result (λ error. HasTakeCause (queue self.old) (queue self.new) error) }
+        ensures cause { IfErr result
+            (λ error. HasTakeCause (queue self.old) (queue self.new) error) }
         ensures closed { result ≡ Err TakeError.Empty → ⊥ }
         ensures turn { IsTurn (queue self.old) (queue self.new) };
 
