@@ -1,31 +1,59 @@
 -- What the scripted coder tells of what it keeps, and of what it will do.
-use Rattle.std.specs.Prelude.{ℕ, ◌-◌, Bool, false, nat_le, List, length, map, Option, Some}
+use Rattle.std.specs.Prelude.{ℕ, ◌-◌, Bool, false, nat_le, min, List, [], length, map, Option, None, Some}
+use Rattle.std.specs.List.{reduce}
 use Rattle.std.specs.Option.{option_map, option_map_or}
+use Rattle.av1_settings.specs.Stats.{no_stats}
 use Rattle.pyramid.specs.declared.command.Command.{Command}
-use Rattle.session_core.specs.Told.{Told, Coded as ToldCoded, Shown as ToldShown}
+use Rattle.pyramid.specs.declared.command.Command.TheVariants.{Show}
+use Rattle.session_core.specs.Told.{CoderTold, Gave, Handed, ToCode, ToShow, Told}
 use Rattle.scripted.specs.declared.coder.Given.{Given}
 use Rattle.scripted.specs.declared.coder.Given.TheVariants.{Coded, Shown}
 use Rattle.scripted.specs.declared.coder.ScriptedCoder.{ScriptedCoder}
 use Rattle.scripted.specs.ScriptedBytes.{scripted_bytes}
 
+-- bytes alone: no picture, and every count 0
+abbrev pub gave_bytes : List ℕ → Gave ℕ
+gave_bytes bytes = record { bytes = bytes; rec = None; stats = no_stats }
+
 abbrev pub told_of : Given → Told ℕ
-told_of (Coded command trial picture bytes) =
-    ToldCoded (record { command = command; trial = trial; picture = picture.value; bytes = bytes })
-told_of (Shown slot frame bytes) = ToldShown (record { slot = slot; frame = frame; bytes = bytes })
+told_of (Coded command trial picture t35 bytes) = record {
+  handed = ToCode (record { command = command; trial = trial; picture = picture.value; t35 = t35.value });
+  gave = gave_bytes bytes;
+}
+told_of (Shown slot frame bytes) =
+    record { handed = ToShow (record { slot = slot; frame = frame }); gave = gave_bytes bytes }
 
-abbrev pub coder_told : ScriptedCoder → Option (List (Told ℕ))
-coder_told coder = Some (map told_of coder.log)
+abbrev pub calls_of : ScriptedCoder → Option (List (Told ℕ))
+calls_of coder = Some (map told_of coder.log)
 
-abbrev pub coder_gives : ScriptedCoder → Option (Command → List ℕ)
-coder_gives coder = Some (scripted_bytes coder.byte_counts)
+abbrev pub command_of : Handed ℕ → Command
+command_of (ToCode job) = job.command
+command_of (ToShow show) = Show show.slot
 
--- how often the coder failed
-abbrev pub coder_faults : ScriptedCoder → ℕ
-coder_faults coder = coder.faults
+-- whatever it gave before, it gives the bytes of the command
+abbrev pub scripted_next : List (ℕ × ℕ) → List (Told ℕ) → Handed ℕ → Gave ℕ
+scripted_next counts calls handed = gave_bytes (scripted_bytes counts (command_of handed))
 
 -- how many further calls give bytes before the first that fails, if one does
-abbrev pub coder_fails_after : ScriptedCoder → Option (Option ℕ)
-coder_fails_after coder = Some (option_map (λ first. first - length coder.log) coder.first_fault)
+abbrev pub calls_left : ScriptedCoder → Option ℕ
+calls_left coder = option_map (λ first. first - length coder.log) coder.first_fault
+
+abbrev pub coder_told : ScriptedCoder → CoderTold ℕ
+coder_told coder = record {
+  calls = calls_of coder;
+  gives = Some (scripted_next coder.byte_counts);
+  fails_after = Some (calls_left coder);
+  faults = coder.faults;
+}
+
+-- what a coder by these rules tells first: no call; its first call that fails is that of the least number
+abbrev pub told_first : List (ℕ × ℕ) → List ℕ → CoderTold ℕ
+told_first counts faults = record {
+  calls = Some [];
+  gives = Some (scripted_next counts);
+  fails_after = Some (reduce min faults);
+  faults = 0;
+}
 
 -- the next call is to fail
 abbrev pub is_due : ScriptedCoder → Bool

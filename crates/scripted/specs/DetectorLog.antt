@@ -1,7 +1,7 @@
 -- What the scripted detector answers, and what it tells of the questions that it keeps.
-use Rattle.std.specs.Prelude.{ℕ, Bool, ◌==◌, List, map, Option, Some}
+use Rattle.std.specs.Prelude.{ℕ, Bool, ◌==◌, List, [], map, Option, Some}
 use Rattle.std.specs.List.{list_any}
-use Rattle.session_core.specs.Told.{Asked}
+use Rattle.session_core.specs.Told.{Asked, DetectorTold}
 use Rattle.scripted.specs.declared.detector.Question.{Question}
 use Rattle.scripted.specs.declared.detector.ScriptedDetector.{ScriptedDetector}
 
@@ -18,8 +18,13 @@ told_question question = record {
   answer = question.answer;
 }
 
-abbrev pub detector_told : ScriptedDetector → Option (List (Asked ℕ))
-detector_told detector = Some (map told_question detector.log)
+abbrev pub questions_of : ScriptedDetector → Option (List (Asked ℕ))
+questions_of detector = Some (map told_question detector.log)
 
-abbrev pub detector_answers : ScriptedDetector → Option (ℕ → Bool)
-detector_answers detector = Some (is_cut detector.cuts)
+abbrev pub detector_told : ScriptedDetector → DetectorTold ℕ
+detector_told detector =
+    record { questions = questions_of detector; answers = Some (is_cut detector.cuts) }
+
+-- what a detector with these cuts tells first: no question, and yes at exactly the cuts
+abbrev pub asked_first : List ℕ → DetectorTold ℕ
+asked_first cuts = record { questions = Some []; answers = Some (is_cut cuts) }

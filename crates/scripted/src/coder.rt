@@ -1,10 +1,10 @@
-ghost use Rattle.std.specs.Prelude.{◌≡◌, ◌∷◌, [], ◌≤◌, Some, IfOk, min};
+ghost use Rattle.std.specs.Prelude.{◌≡◌, ◌∷◌, [], ◌≤◌, IfOk, min};
 ghost use Rattle.std.specs.List.{reduce};
 ghost use Rattle.coding_base.specs.Faults.{Rose};
 ghost use Rattle.scripted.specs.ScriptedBytes.{byte_count, plain_count, scripted_bytes, set_count};
 
 use av1_frame::Frame;
-use av1_settings::FrameType;
+use av1_settings::{EncoderStats, FrameType, T35List};
 use coding_base::{Bytes, OutOfMemory, Sequence};
 use pyramid::Command;
 use session_core::{CodeJob, CodedFrame, CoderError, FrameCoder, ShownFrame};
@@ -22,6 +22,8 @@ pub enum Given {
         trial: bool,
         /// The picture that was handed over.
         picture: Arc<Frame<u8>>,
+        /// The metadata that was handed over.
+        t35: Arc<T35List>,
         /// The bytes.
         bytes: Bytes,
     },
@@ -115,13 +117,14 @@ fn shown_bytes(slot: u8) -> [u8; 3]
 }
 
 impl ScriptedCoder {
-    ghost use Rattle.std.specs.Prelude.{◌++◌, ◌∷◌, [], IsTrue, Some, map, OnOk, OnErr};
+    ghost use Rattle.std.specs.Prelude.{◌++◌, ◌∷◌, [], IsTrue, None, Some, map, OnOk, OnErr};
+    ghost use Rattle.av1_settings.specs.Stats.{no_stats};
     ghost use Rattle.session_core.specs.Told.{GrowsBy, told_code, told_show};
-    ghost use Rattle.scripted.specs.CoderLog.{coder_fails_after, coder_faults, coder_gives, coder_told, is_due, told_of};
+    ghost use Rattle.scripted.specs.CoderLog.{calls_of, coder_told, is_due, told_first, told_of};
 
     /// A coder that was asked for nothing yet, sets no counts of bytes and never fails.
     pub fn new(alloc: Global) -> ScriptedCoder
-        ensures { coder_told result ≡ Some [] }
+        ensures { coder_told result ≡ told_first [] [] }
     {
         ScriptedCoder {
             byte_counts: Sequence::new(alloc),
@@ -139,12 +142,8 @@ impl ScriptedCoder {
         byte_counts: &[(u64, u64)],
         faults: &[u64],
     ) -> Result<ScriptedCoder, OutOfMemory>
-        ensures told { IfOk result (λ coder. coder_told coder ≡ Some []) }
-        ensures gives { IfOk result (λ coder.
-            coder_gives coder ≡ Some (scripted_bytes byte_counts.now)) }
-        ensures fails_after { IfOk result (λ coder.
-            coder_fails_after coder ≡ Some (reduce min faults.now)) }
-        ensures faults { IfOk result (λ coder. coder_faults coder ≡ 0) }
+        ensures { IfOk result (λ coder.
+            coder_told coder ≡ told_first byte_counts.now faults.now) }
     {
         Ok(ScriptedCoder {
             byte_counts: Sequence::from_slice(alloc, byte_counts)?,
@@ -156,7 +155,7 @@ impl ScriptedCoder {
 
     /// The calls that gave bytes so far, in order.
     pub fn given(&self) -> &[Given]
-        ensures { coder_told self.now ≡ Some (map told_of result.now) }
+        ensures { (coder_told self.now).calls ≡ Some (map told_of result.now) }
     {
         self.log.as_slice()
     }
@@ -180,37 +179,52 @@ impl ScriptedCoder {
     // Keeps a call that gave bytes.
     fn keep(&mut self, given: Given) -> Result<(), OutOfMemory>
         ensures ok { OnOk result
-            (coder_told self.new ≡ Some (map told_of self.old.log ++ told_of given ∷ [])) }
-        ensures err { OnErr result (coder_told self.new ≡ coder_told self.old) }
+            (calls_of self.new ≡ Some (map told_of self.old.log ++ told_of given ∷ [])) }
+        ensures err { OnErr result (calls_of self.new ≡ calls_of self.old) }
         ensures same { self.new ≡ record self.old { log = self.new.log } }
     {
         self.log.push(given)?;
         Ok(())
     }
 
-    fn keep_code(&mut self, alloc: Global, job: &CodeJob<u8>) -> Result<CodedFrame, OutOfMemory>
-        ensures told { GrowsBy (coder_told self.old) (coder_told self.new) result
+    fn keep_code(&mut self, alloc: Global, job: &CodeJob<u8>) -> Result<CodedFrame<u8>, OutOfMemory>
+        ensures told { GrowsBy (calls_of self.old) (calls_of self.new) result
             (told_code job.now) }
         ensures bytes { IfOk result (λ coded.
             coded.bytes ≡ scripted_bytes self.old.byte_counts job.now.command) }
+        ensures plain { IfOk result (λ coded.
+            (coded.rec ≡ None) × (coded.stats ≡ no_stats)) }
         ensures same { self.new ≡ record self.old { log = self.new.log } }
     {
         let bytes = scripted_bytes(alloc, self.byte_counts.as_slice(), &job.command)?;
         let kept = scripted_bytes(alloc, self.byte_counts.as_slice(), &job.command)?;
-        let picture = job.picture.clone()?;
+        let picture = Arc::try_clone(&job.picture)?;
+        let t35 = Arc::try_clone(&job.t35)?;
         self.keep(Given::Coded {
             command: job.command,
             trial: job.trial,
             picture,
+            t35,
             bytes: kept,
         })?;
-        Ok(CodedFrame { bytes })
+        Ok(CodedFrame {
+            bytes,
+            rec: None,
+            stats: EncoderStats::default(),
+        })
     }
 
-    fn keep_show(&mut self, alloc: Global, slot: u8, frame: u64) -> Result<ShownFrame, OutOfMemory>
-        ensures told { GrowsBy (coder_told self.old) (coder_told self.new) result
+    fn keep_show(
+        &mut self,
+        alloc: Global,
+        slot: u8,
+        frame: u64,
+    ) -> Result<ShownFrame<u8>, OutOfMemory>
+        ensures told { GrowsBy (calls_of self.old) (calls_of self.new) result
             (told_show slot frame) }
         ensures bytes { IfOk result (λ shown. shown.bytes ≡ 26 ∷ 1 ∷ slot ∷ []) }
+        ensures plain { IfOk result (λ shown.
+            (shown.rec ≡ None) × (shown.stats ≡ no_stats)) }
         ensures same { self.new ≡ record self.old { log = self.new.log } }
     {
         let kept = Sequence::from_slice(alloc, &shown_bytes(slot))?;
@@ -221,23 +235,19 @@ impl ScriptedCoder {
         })?;
         Ok(ShownFrame {
             bytes: shown_bytes(slot),
+            rec: None,
+            stats: EncoderStats::default(),
         })
     }
 }
 
 impl FrameCoder<u8> for ScriptedCoder {
-    ghost use Rattle.scripted.specs.CoderLog.{coder_fails_after, coder_faults, coder_gives, coder_told};
+    ghost use Rattle.scripted.specs.CoderLog.{coder_told};
 
     ghost told = { coder_told };
 
-    ghost gives = { coder_gives };
-
-    ghost fails_after = { coder_fails_after };
-
-    ghost faults = { coder_faults };
-
     #[tactic(auto, unfolding(crate::specs::ScriptedBytes::scripted_bytes))]
-    fn code(&mut self, alloc: Global, job: &CodeJob<u8>) -> Result<CodedFrame, CoderError> {
+    fn code(&mut self, alloc: Global, job: &CodeJob<u8>) -> Result<CodedFrame<u8>, CoderError> {
         if self.fails() {
             return Err(CoderError::Failed);
         }
@@ -248,7 +258,7 @@ impl FrameCoder<u8> for ScriptedCoder {
     }
 
     #[tactic(auto, unfolding(crate::specs::ScriptedBytes::scripted_bytes))]
-    fn show(&mut self, alloc: Global, slot: u8, frame: u64) -> Result<ShownFrame, CoderError> {
+    fn show(&mut self, alloc: Global, slot: u8, frame: u64) -> Result<ShownFrame<u8>, CoderError> {
         if self.fails() {
             return Err(CoderError::Failed);
         }

@@ -1,6 +1,6 @@
 ghost use Rattle.std.specs.Prelude.{◌≡◌, [], ◌∷◌, ◌++◌, ◌-◌, map, IfOk, OnOk, OnErr, Some};
 ghost use Rattle.session_core.specs.Told.{GrowsBy, told_ask};
-ghost use Rattle.scripted.specs.DetectorLog.{detector_answers, detector_told, is_cut, told_question};
+ghost use Rattle.scripted.specs.DetectorLog.{asked_first, detector_told, questions_of, told_question};
 
 use av1_frame::Frame;
 use av1_settings::SceneDetectionSpeed;
@@ -34,9 +34,7 @@ pub struct ScriptedDetector {
 impl ScriptedDetector {
     /// A detector that was asked nothing yet. Scenes begin at the frames of these input numbers.
     pub fn new(alloc: Global, cuts: &[u64]) -> Result<ScriptedDetector, OutOfMemory>
-        ensures told { IfOk result (λ detector. detector_told detector ≡ Some []) }
-        ensures answers { IfOk result (λ detector.
-            detector_answers detector ≡ Some (is_cut cuts.now)) }
+        ensures { IfOk result (λ detector. detector_told detector ≡ asked_first cuts.now) }
     {
         Ok(ScriptedDetector {
             cuts: Sequence::from_slice(alloc, cuts)?,
@@ -46,8 +44,7 @@ impl ScriptedDetector {
 
     /// A detector that was asked nothing yet, for which no scene begins anywhere.
     pub fn without_cuts(alloc: Global) -> ScriptedDetector
-        ensures told { detector_told result ≡ Some [] }
-        ensures answers { detector_answers result ≡ Some (is_cut []) }
+        ensures { detector_told result ≡ asked_first [] }
     {
         ScriptedDetector {
             cuts: Sequence::new(alloc),
@@ -57,7 +54,7 @@ impl ScriptedDetector {
 
     /// The questions answered so far, in order.
     pub fn questions(&self) -> &[Question]
-        ensures { detector_told self.now ≡ Some (map told_question result.now) }
+        ensures { (detector_told self.now).questions ≡ Some (map told_question result.now) }
     {
         self.log.as_slice()
     }
@@ -65,9 +62,9 @@ impl ScriptedDetector {
     // Keeps a question with its answer.
     fn keep(&mut self, question: Question) -> Result<bool, OutOfMemory>
         ensures ok { IfOk result (λ answer. answer ≡ question.answer) }
-        ensures told { OnOk result (detector_told self.new
+        ensures told { OnOk result (questions_of self.new
             ≡ Some (map told_question self.old.log ++ told_question question ∷ [])) }
-        ensures err { OnErr result (detector_told self.new ≡ detector_told self.old) }
+        ensures err { OnErr result (questions_of self.new ≡ questions_of self.old) }
         ensures cuts { self.new.cuts ≡ self.old.cuts }
     {
         let answer = question.answer;
@@ -89,11 +86,9 @@ fn shared(alloc: Global, frames: &[Arc<Frame<u8>>]) -> Result<Sequence<Arc<Frame
 }
 
 impl Detector<u8> for ScriptedDetector {
-    ghost use Rattle.scripted.specs.DetectorLog.{detector_answers, detector_told};
+    ghost use Rattle.scripted.specs.DetectorLog.{detector_told};
 
     ghost told = { detector_told };
-
-    ghost answers = { detector_answers };
 
     fn ask(
         &mut self,

@@ -13,7 +13,8 @@ use Rattle.session_core.specs.declared.transcript.Decision.{Decision}
 use Rattle.session_core.specs.declared.transcript.LogEntry.{LogEntry}
 use Rattle.session_core.specs.declared.transcript.Turn.{Turn}
 use Rattle.session_core.specs.Moments.{Accepted, Moment, opening, is_complete, plan_at}
-use Rattle.session_core.specs.Sessions.{AreTurns, moment_at, is_receive, accepted_in, entries_of, packets_of, accepted_by, packet_of}
+use Rattle.session_core.specs.Sessions.{AreTurns, moment_at, is_receive, accepted_in, entries_of, packets_of, accepted_by}
+use Rattle.session_core.specs.Taken.{packet_of}
 use Rattle.session_core.specs.Turns.{real_entries, after_turn, IsTurn}
 use Rattle.session_core.proofs.Along.{runs-along, runs-drop}
 use Rattle.session_core.proofs.History.{IsHistory, command_list}

@@ -12,7 +12,7 @@ use Rattle.av1_settings.specs.declared.encoder.EncoderConfig.{EncoderConfig}
 use Rattle.av1_settings.specs.declared.speed.SceneDetectionSpeed.{SceneDetectionSpeed}
 use Rattle.pyramid.specs.Settings.{numbers_of}
 use Rattle.session_core.specs.declared.state.SessionState.{SessionState}
-use Rattle.session_core.specs.declared.state.WaitingFrame.{WaitingFrame}
+use Rattle.session_core.specs.declared.waiting.WaitingFrame.{WaitingFrame}
 use Rattle.session_core.specs.declared.transcript.Decision.{Decision}
 use Rattle.session_core.specs.Decisions.{decided_count, decisions_at, key_positions, keys_of}
 use Rattle.session_core.specs.Moments.{Waiting, Moment}

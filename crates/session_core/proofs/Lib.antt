@@ -2,13 +2,14 @@ mod Along
 mod Asked
 mod Asking
 mod CallLoop
+mod Calling
 mod Completion
 mod Decided
 mod Deciding
 mod HeadlineLaw
 mod History
-mod Lookahead
 mod KnownBehind
+mod Lookahead
 mod PlanAt
 mod PlanFronts
 mod RunHistory
@@ -20,5 +21,6 @@ mod StateLemmas
 mod Steps
 mod Taken
 mod Telling
+mod Turning
 mod WaitingKinds
 mod Widen

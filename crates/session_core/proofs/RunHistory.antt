@@ -11,7 +11,8 @@ use Rattle.session_core.specs.declared.transcript.Decision.{Decision}
 use Rattle.session_core.specs.declared.transcript.LogEntry.{LogEntry}
 use Rattle.session_core.specs.declared.transcript.Turn.{Turn}
 use Rattle.session_core.specs.Moments.{Accepted, Moment, opening, plan_at}
-use Rattle.session_core.specs.Sessions.{AreTurns, moment_after, accepted_by, accepted_in, entries_of, commands_of, packet_of, packets_of}
+use Rattle.session_core.specs.Sessions.{AreTurns, moment_after, accepted_by, accepted_in, entries_of, commands_of, packets_of}
+use Rattle.session_core.specs.Taken.{packet_of}
 use Rattle.session_core.specs.Turns.{real_entries, after_turn, IsTurn}
 use Rattle.session_core.proofs.Along.{runs-along}
 use Rattle.session_core.proofs.History.{IsHistory, history-opening, history-accept, history-flush, history-entry, history-packet}

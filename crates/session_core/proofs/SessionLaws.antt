@@ -3,6 +3,7 @@ use Rattle.std.proofs.Common.{◌≡◌, ℕ, ◌≤◌, List, [], ◌∷◌, �
 use Rattle.std.specs.List.{flat_map}
 use Rattle.av1_settings.specs.declared.encoder.EncoderConfig.{EncoderConfig}
 use Rattle.pyramid.specs.declared.command.Command.{Command}
+use Rattle.pyramid.specs.Display.{empty_slots}
 use Rattle.session_core.specs.declared.call.Call.{Call}
 use Rattle.session_core.specs.declared.transcript.Decision.{Decision}
 use Rattle.session_core.specs.declared.transcript.LogEntry.{LogEntry}
@@ -11,11 +12,11 @@ use Rattle.session_core.specs.declared.transcript.Turn.{Turn}
 use Rattle.session_core.specs.Answers.{Codes}
 use Rattle.session_core.specs.Moments.{opening, plan_at}
 use Rattle.session_core.specs.Questions.{questions, questions_in}
-use Rattle.session_core.specs.Sessions.{AreTurns, moment_after, accepted_in, entries_of, commands_of, AreKeyDecisions, IsTaken, Headline, KeepsSchedule}
-use Rattle.session_core.specs.States.{IsReady, told_at}
-use Rattle.session_core.specs.Told.{Grew, Heard}
+use Rattle.session_core.specs.Sessions.{AreTurns, moment_after, accepted_in, entries_of, commands_of, AreKeyDecisions, Headline, KeepsSchedule, handed_entries}
+use Rattle.session_core.specs.States.{IsReady}
+use Rattle.session_core.specs.Taken.{handed_at}
 use Rattle.session_core.specs.Turns.{after_turn, BeginTrials, IsTurn}
-pub use Rattle.session_core.proofs.Taken.{told_turns}
+pub use Rattle.session_core.proofs.Taken.{handed_turns}
 use Rattle.session_core.proofs.HeadlineLaw.{headline-after, decided-keys}
 use Rattle.session_core.proofs.Lookahead.{ready-after}
 use Rattle.session_core.proofs.RunHistory.{commands-first, commands-counted}
@@ -25,11 +26,11 @@ use Rattle.session_core.proofs.Taken as Taken
 use Rattle.session_core.proofs.Widen as Widen
 
 -- one more call and its turn
-pub told_turns-push : {T O : Type 0} (enc : EncoderConfig) (decisions : List Decision) (calls : List (Call T O)) (turns : List (Turn T O)) (call : Call T O) (turn : Turn T O) →
+pub handed_turns-push : {T O : Type 0} (enc : EncoderConfig) (decisions : List Decision) (calls : List (Call T O)) (turns : List (Turn T O)) (call : Call T O) (turn : Turn T O) →
     length turns ≡ length calls →
-    told_turns enc decisions opening (calls ++ call ∷ []) (turns ++ turn ∷ [])
-    ≡ told_turns enc decisions opening calls turns ++ flat_map (told_at (moment_after enc decisions calls turns)) turn.log
-told_turns-push enc decisions calls turns call turn same = Taken.told_turns-push enc decisions opening calls turns call turn same
+    handed_turns enc decisions opening (calls ++ call ∷ []) (turns ++ turn ∷ [])
+    ≡ handed_turns enc decisions opening calls turns ++ flat_map (handed_at (moment_after enc decisions calls turns)) turn.log
+handed_turns-push enc decisions calls turns call turn same = Taken.handed_turns-push enc decisions opening calls turns call turn same
 
 module _ {T O : Type 0} (enc : EncoderConfig) (decisions : List Decision) (calls : List (Call T O)) (turns : List (Turn T O)) where
   -- the next call finds what it needs
@@ -60,27 +61,26 @@ module _ {T O : Type 0} (enc : EncoderConfig) (decisions : List Decision) (calls
       ++ questions_in enc (moment_after enc decisions calls turns) (after_turn enc decisions (moment_after enc decisions calls turns) call turn)
   asked-turn looks are call turn is kept = Asked.asked-turn enc decisions calls turns looks are call turn is kept
 
-  -- told turn by turn is what the coder took
-  pub taken-all : (before after : Heard T) → AreTurns enc decisions calls turns → Grew before.coder after.coder (told_turns enc decisions opening calls turns) →
-      IsTaken (accepted_in calls turns) (entries_of turns) before after
-  taken-all before after are grew = Taken.taken-all enc decisions calls turns before after are grew
+  -- what is handed turn by turn is what the display machine says
+  pub handed-all : AreTurns enc decisions calls turns →
+      handed_turns enc decisions opening calls turns ≡ handed_entries (accepted_in calls turns) empty_slots (entries_of turns)
+  handed-all are = Taken.handed-all enc decisions calls turns are
 
   -- also with what was tried for the next command
-  pub taken-of : (before after : Heard T) (number : ℕ) (command : Command) (trials : List LogEntry) → AreTurns enc decisions calls turns →
+  pub handed-tried : (number : ℕ) (command : Command) (trials : List LogEntry) → AreTurns enc decisions calls turns →
       Codes enc (moment_after enc decisions calls turns) number command → BeginTrials enc (moment_after enc decisions calls turns) command trials →
-      Grew before.coder after.coder (told_turns enc decisions opening calls turns ++ flat_map (told_at (moment_after enc decisions calls turns)) trials) →
-      IsTaken (accepted_in calls turns) (entries_of turns ++ trials) before after
-  taken-of before after number command trials are due tried grew =
-      Taken.taken-of enc decisions calls turns before after number command trials are due tried grew
+      handed_turns enc decisions opening calls turns ++ flat_map (handed_at (moment_after enc decisions calls turns)) trials
+      ≡ handed_entries (accepted_in calls turns) empty_slots (entries_of turns ++ trials)
+  handed-tried number command trials are due tried = Taken.handed-tried enc decisions calls turns number command trials are due tried
 
   -- decisions at the end of the list that aren't made yet change nothing
   pub widen : (more : List Decision) → AreTurns enc decisions calls turns →
       AreTurns enc (decisions ++ more) calls turns × (moment_after enc (decisions ++ more) calls turns ≡ moment_after enc decisions calls turns)
   widen more are = Widen.widen enc decisions more calls turns are
 
-  pub widen-told : (more : List Decision) → AreTurns enc decisions calls turns →
-      told_turns enc (decisions ++ more) opening calls turns ≡ told_turns enc decisions opening calls turns
-  widen-told more are = Widen.widen-told enc decisions more calls turns are
+  pub widen-handed : (more : List Decision) → AreTurns enc decisions calls turns →
+      handed_turns enc (decisions ++ more) opening calls turns ≡ handed_turns enc decisions opening calls turns
+  widen-handed more are = Widen.widen-handed enc decisions more calls turns are
 
 -- other calls between the same frames, with the same decisions, give the same commands as far as both go
 pub schedule-of : {T O : Type 0} (enc : EncoderConfig) (calls : List (Call T O)) (transcript : Transcript T O) → AreTurns enc transcript.decisions calls transcript.turns →

@@ -22,7 +22,8 @@ use Rattle.session_core.specs.declared.transcript.Reply.TheVariants.{Sent, Flush
 use Rattle.session_core.specs.declared.transcript.Turn.{Turn}
 use Rattle.session_core.specs.Decisions.{decisions_at}
 use Rattle.session_core.specs.Moments.{Accepted, Moment, is_complete, plan_at}
-use Rattle.session_core.specs.Sessions.{accepted_by, packet_of, is_receive}
+use Rattle.session_core.specs.Sessions.{accepted_by, is_receive}
+use Rattle.session_core.specs.Taken.{packet_of}
 use Rattle.session_core.specs.Turns.{frame_limit, has_enough, sent_reply, accepted_of, after_send, after_flush, Decides, needs_more_data, is_showing, IsNextPacket, AreTrials, BeginTrials, CodesNext, OnlyReplies, held_back, real_entries, noted, noted_all, after_receive, after_turn, IsTurn}
 
 -- ---- the kinds of turns

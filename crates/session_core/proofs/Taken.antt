@@ -17,9 +17,9 @@ use Rattle.session_core.specs.declared.transcript.LogEntry.{LogEntry}
 use Rattle.session_core.specs.declared.transcript.Turn.{Turn}
 use Rattle.session_core.specs.Answers.{Codes as IsCodedNext}
 use Rattle.session_core.specs.Moments.{Accepted, Waiting, Moment, opening, waiting_at, plan_at}
-use Rattle.session_core.specs.Sessions.{AreTurns, IsTaken, moment_after, accepted_by, accepted_in, entries_of, told_of, told_entries}
-use Rattle.session_core.specs.States.{told_at}
-use Rattle.session_core.specs.Told.{Told, Coded, Shown, Grew, Heard}
+use Rattle.session_core.specs.Sessions.{AreTurns, moment_after, accepted_by, accepted_in, entries_of, handed_of, handed_entries}
+use Rattle.session_core.specs.Taken.{handed_at, job_of}
+use Rattle.session_core.specs.Told.{Handed, ToShow}
 use Rattle.session_core.specs.Turns.{BeginTrials, real_entries, after_turn, IsTurn}
 use Rattle.session_core.proofs.Along.{runs-along}
 use Rattle.session_core.proofs.Decided.{frame_of, slice_get-front, waiting_at-sent}
@@ -33,25 +33,25 @@ use Rattle.session_core.proofs.Steps.TurnView.{Stays, Accepts, Ends, Codes}
 -- ---- turn by turn
 
 -- each entry at the moment before its turn
-abbrev pub told_turns : {T O : Type 0} → EncoderConfig → List Decision → Moment T O → List (Call T O) → List (Turn T O) → List (Told T)
-told_turns enc decisions moment [] turns = []
-told_turns enc decisions moment (call ∷ calls) [] = []
-told_turns enc decisions moment (call ∷ calls) (turn ∷ turns) =
-    flat_map (told_at moment) turn.log ++ told_turns enc decisions (after_turn enc decisions moment call turn) calls turns
+abbrev pub handed_turns : {T O : Type 0} → EncoderConfig → List Decision → Moment T O → List (Call T O) → List (Turn T O) → List (Handed T)
+handed_turns enc decisions moment [] turns = []
+handed_turns enc decisions moment (call ∷ calls) [] = []
+handed_turns enc decisions moment (call ∷ calls) (turn ∷ turns) =
+    flat_map (handed_at moment) turn.log ++ handed_turns enc decisions (after_turn enc decisions moment call turn) calls turns
 
 -- one more call and its turn
-pub told_turns-push : {T O : Type 0} (enc : EncoderConfig) (decisions : List Decision) (moment : Moment T O) (calls : List (Call T O)) (turns : List (Turn T O)) (call : Call T O) (turn : Turn T O) →
+pub handed_turns-push : {T O : Type 0} (enc : EncoderConfig) (decisions : List Decision) (moment : Moment T O) (calls : List (Call T O)) (turns : List (Turn T O)) (call : Call T O) (turn : Turn T O) →
     length turns ≡ length calls →
-    told_turns enc decisions moment (calls ++ call ∷ []) (turns ++ turn ∷ [])
-    ≡ told_turns enc decisions moment calls turns ++ flat_map (told_at (after_calls (after_turn enc decisions) moment calls turns)) turn.log
-told_turns-push enc decisions moment [] [] call turn same = append-nil (flat_map (told_at moment) turn.log)
-told_turns-push enc decisions moment [] (other ∷ turns) call turn same = absurd (omega arith)
-told_turns-push enc decisions moment (first ∷ calls) [] call turn same = absurd (omega arith)
-told_turns-push {T} {O} enc decisions moment (first ∷ calls) (other ∷ turns) call turn same =
+    handed_turns enc decisions moment (calls ++ call ∷ []) (turns ++ turn ∷ [])
+    ≡ handed_turns enc decisions moment calls turns ++ flat_map (handed_at (after_calls (after_turn enc decisions) moment calls turns)) turn.log
+handed_turns-push enc decisions moment [] [] call turn same = append-nil (flat_map (handed_at moment) turn.log)
+handed_turns-push enc decisions moment [] (other ∷ turns) call turn same = absurd (omega arith)
+handed_turns-push enc decisions moment (first ∷ calls) [] call turn same = absurd (omega arith)
+handed_turns-push {T} {O} enc decisions moment (first ∷ calls) (other ∷ turns) call turn same =
     let next = after_turn enc decisions moment first other in
-    ap (λ (l : List (Told T)). flat_map (told_at moment) other.log ++ l) (told_turns-push enc decisions next calls turns call turn (omega arith))
-    ∙ sym (append_assoc (flat_map (told_at moment) other.log) (told_turns enc decisions next calls turns)
-    (flat_map (told_at (after_calls (after_turn enc decisions) next calls turns)) turn.log))
+    ap (λ (l : List (Handed T)). flat_map (handed_at moment) other.log ++ l) (handed_turns-push enc decisions next calls turns call turn (omega arith))
+    ∙ sym (append_assoc (flat_map (handed_at moment) other.log) (handed_turns enc decisions next calls turns)
+    (flat_map (handed_at (after_calls (after_turn enc decisions) next calls turns)) turn.log))
 
 -- ---- as the display machine says
 
@@ -71,12 +71,12 @@ told_slots-real slots (entry ∷ entries) =
     by_test true kept moved = kept
     by_test false kept moved = moved
 
-told_entries-append : {T O : Type 0} (sent : List (Accepted T O)) (slots : Slots) (a b : List LogEntry) → told_entries sent slots (a ++ b) ≡ told_entries sent slots a ++ told_entries sent (told_slots slots a) b
-told_entries-append sent slots [] b = refl
-told_entries-append {T} {O} sent slots (entry ∷ a) b =
-    ap (λ (l : List (Told T)). told_of sent slots entry ++ l) (told_entries-append sent (cond entry.trial slots (slots_after_one slots entry.command)) a b)
-    ∙ sym (append_assoc (told_of sent slots entry) (told_entries sent (cond entry.trial slots (slots_after_one slots entry.command)) a)
-    (told_entries sent (told_slots (cond entry.trial slots (slots_after_one slots entry.command)) a) b))
+handed_entries-append : {T O : Type 0} (sent : List (Accepted T O)) (slots : Slots) (a b : List LogEntry) → handed_entries sent slots (a ++ b) ≡ handed_entries sent slots a ++ handed_entries sent (told_slots slots a) b
+handed_entries-append sent slots [] b = refl
+handed_entries-append {T} {O} sent slots (entry ∷ a) b =
+    ap (λ (l : List (Handed T)). handed_of sent slots entry ++ l) (handed_entries-append sent (cond entry.trial slots (slots_after_one slots entry.command)) a b)
+    ∙ sym (append_assoc (handed_of sent slots entry) (handed_entries sent (cond entry.trial slots (slots_after_one slots entry.command)) a)
+    (handed_entries sent (told_slots (cond entry.trial slots (slots_after_one slots entry.command)) a) b))
 
 -- ---- frames sent later change nothing
 
@@ -101,29 +101,18 @@ all-append : (high : ℕ) (a b : List LogEntry) → AllBelow high a → AllBelow
 all-append high [] b all more = more
 all-append high (entry ∷ a) b all more = (all.0, all-append high a b all.1 more)
 
-told_of-sent : {T O : Type 0} (sent more : List (Accepted T O)) (slots : Slots) (command : Command) (trial : Bool) (bytes : List ℕ) → IsBelow (length sent) command →
-    told_of (sent ++ more) slots (record { command = command; trial = trial; bytes = bytes }) ≡ told_of sent slots (record { command = command; trial = trial; bytes = bytes })
-told_of-sent {T} {O} sent more slots (Code frame kind refs refresh shown) trial bytes below =
-    let with_picture : Accepted T O → Told T = λ accepted. Coded (record {
-      command = Code frame kind refs refresh shown;
-      trial = trial;
-      picture = accepted.picture;
-      bytes = bytes;
-    }) in
-    ap (λ (o : Option (Accepted T O)). option_to_list (option_map with_picture o)) (slice_get-front sent more frame below)
-told_of-sent sent more slots (Show slot) trial bytes below = refl
+handed_of-sent : {T O : Type 0} (sent more : List (Accepted T O)) (slots : Slots) (command : Command) (trial : Bool) (bytes : List ℕ) → IsBelow (length sent) command →
+    handed_of (sent ++ more) slots (record { command = command; trial = trial; bytes = bytes }) ≡ handed_of sent slots (record { command = command; trial = trial; bytes = bytes })
+handed_of-sent {T} {O} sent more slots (Code frame kind refs refresh shown) trial bytes below =
+    ap (λ (o : Option (Accepted T O)). option_to_list (option_map (job_of (Code frame kind refs refresh shown) trial) o)) (slice_get-front sent more frame below)
+handed_of-sent sent more slots (Show slot) trial bytes below = refl
 
-told_entries-sent : {T O : Type 0} (sent more : List (Accepted T O)) (slots : Slots) (entries : List LogEntry) → AllBelow (length sent) entries →
-    told_entries (sent ++ more) slots entries ≡ told_entries sent slots entries
-told_entries-sent sent more slots [] all = refl
-told_entries-sent {T} {O} sent more slots (entry ∷ entries) all =
-    ap₂ (λ (a b : List (Told T)). a ++ b) (told_of-sent sent more slots entry.command entry.trial entry.bytes all.0)
-    (told_entries-sent sent more (cond entry.trial slots (slots_after_one slots entry.command)) entries all.1)
-
-one_there : {A B : Type 0} (f : A → B) (xs : List A) (k : ℕ) → k < length xs → length (option_to_list (option_map f (slice_get xs k))) ≡ 1
-one_there f [] k h = absurd (omega arith)
-one_there f (x ∷ xs) zero h = refl
-one_there f (x ∷ xs) (suc k) h = one_there f xs k (omega arith)
+handed_entries-sent : {T O : Type 0} (sent more : List (Accepted T O)) (slots : Slots) (entries : List LogEntry) → AllBelow (length sent) entries →
+    handed_entries (sent ++ more) slots entries ≡ handed_entries sent slots entries
+handed_entries-sent sent more slots [] all = refl
+handed_entries-sent {T} {O} sent more slots (entry ∷ entries) all =
+    ap₂ (λ (a b : List (Handed T)). a ++ b) (handed_of-sent sent more slots entry.command entry.trial entry.bytes all.0)
+    (handed_entries-sent sent more (cond entry.trial slots (slots_after_one slots entry.command)) entries all.1)
 
 -- ---- at a moment
 
@@ -131,59 +120,31 @@ module _ {T O : Type 0} (enc : EncoderConfig) (whole : List Decision) (moment : 
     (sound : IsSound enc whole moment sent done) (command : Command) (next : slice_get (plan_at enc moment) moment.commands ≡ Some command) where
   -- of the next command what is told is what the display machine says, also where it is only tried
   told_next : (next_one : Command) (trial : Bool) (bytes : List ℕ) → slice_get (plan_at enc moment) moment.commands ≡ Some next_one →
-      told_at moment (record { command = next_one; trial = trial; bytes = bytes }) ≡ told_of sent (slots_after empty_slots done) (record { command = next_one; trial = trial; bytes = bytes })
+      handed_at moment (record { command = next_one; trial = trial; bytes = bytes }) ≡ handed_of sent (slots_after empty_slots done) (record { command = next_one; trial = trial; bytes = bytes })
   told_next (Code frame kind refs refresh shown) trial bytes is =
       by_frame (waiting_at moment frame)
-      ∙ ap (λ (o : Option (Accepted T O)). option_to_list (option_map with_picture o)) (waiting_at-sent moment sent frame sound.frames (can enc whole moment sent done sound (Code frame kind refs refresh shown) is).0)
+      ∙ ap (λ (o : Option (Accepted T O)). option_to_list (option_map with_job o)) (waiting_at-sent moment sent frame sound.frames (can enc whole moment sent done sound (Code frame kind refs refresh shown) is).0)
     where
-      with_picture : Accepted T O → Told T
-      with_picture = λ accepted. Coded (record { command = Code frame kind refs refresh shown; trial = trial; picture = accepted.picture; bytes = bytes })
+      with_job : Accepted T O → Handed T
+      with_job = job_of (Code frame kind refs refresh shown) trial
 
       by_frame : (o : Option (Waiting T O)) →
-          option_to_list (option_map (λ waiting. Coded (record { command = Code frame kind refs refresh shown; trial = trial; picture = waiting.frame.picture; bytes = bytes })) o)
-          ≡ option_to_list (option_map with_picture (option_map frame_of o))
+          option_to_list (option_map (λ waiting. with_job waiting.frame) o) ≡ option_to_list (option_map with_job (option_map frame_of o))
       by_frame None = refl
       by_frame (Some one) = refl
   told_next (Show slot) trial bytes is =
-      let with_number : ℕ → Told T = λ frame. Shown (record { slot = slot; frame = frame; bytes = bytes }) in
+      let with_number : ℕ → Handed T = λ frame. ToShow (record { slot = slot; frame = frame }) in
       let holds : held (slots_after empty_slots done) slot ≡ Some moment.packets =
       ap (λ (l : List Command). held (slots_after empty_slots l) slot) sound.commands
       ∙ (plan-of enc moment).show moment.commands slot is
       ∙ ap (λ (n : ℕ). Some n) (sym (packets-are enc whole moment sent done sound)) in
       ap (λ (o : Option ℕ). option_to_list (option_map with_number o)) (sym holds)
 
-  -- each is told once
-  each_one : (entry : LogEntry) → entry.command ≡ command → length (told_at moment entry) ≡ 1
-  each_one entry is = of_next entry.command entry.trial entry.bytes (next ∙ ap (λ (c : Command). Some c) (sym is))
-    where
-      of_next : (c : Command) (trial : Bool) (bytes : List ℕ) → slice_get (plan_at enc moment) moment.commands ≡ Some c →
-          length (told_at moment (record { command = c; trial = trial; bytes = bytes })) ≡ 1
-      of_next (Code frame kind refs refresh shown) trial bytes is =
-          ap length (told_next (Code frame kind refs refresh shown) trial bytes is)
-          ∙ one_there (λ (accepted : Accepted T O). Coded (record { command = Code frame kind refs refresh shown; trial = trial; picture = accepted.picture; bytes = bytes })) sent frame
-          (subst (λ (n : ℕ). frame < n) sound.accepted (can enc whole moment sent done sound (Code frame kind refs refresh shown) is).1)
-      of_next (Show slot) trial bytes is = refl
-
-  each_trial : (trials : List LogEntry) → All (IsTrialOf command) trials → length (flat_map (told_at moment) trials) ≡ length trials
-  each_trial [] tried = refl
-  each_trial (trial ∷ trials) tried =
-      length-append (told_at moment trial) (flat_map (told_at moment) trials)
-      ∙ ap₂ (λ (a b : ℕ). a + b) (each_one trial (All-head (IsTrialOf command) trial trials tried).1) (each_trial trials (All-tail (IsTrialOf command) trial trials tried))
-      ∙ omega arith
-
-  each_log : (trials : List LogEntry) (entry : LogEntry) → All (IsTrialOf command) trials → entry.command ≡ command →
-      length (flat_map (told_at moment) (trials ++ entry ∷ [])) ≡ length (trials ++ entry ∷ [])
-  each_log trials entry tried is =
-      ap length (flat_map-append (told_at moment) trials (entry ∷ []))
-      ∙ length-append (flat_map (told_at moment) trials) (told_at moment entry ++ [])
-      ∙ ap₂ (λ (a b : ℕ). a + b) (each_trial trials tried) (ap length (append-nil (told_at moment entry)) ∙ each_one entry is)
-      ∙ sym (length-append trials (entry ∷ []))
-
   -- an entry of the command
   abbrev IsOf : LogEntry → Type 0
   IsOf entry = entry.command ≡ command
 
-  told_one : (entry : LogEntry) → entry.command ≡ command → told_at moment entry ≡ told_of sent (slots_after empty_slots done) entry
+  told_one : (entry : LogEntry) → entry.command ≡ command → handed_at moment entry ≡ handed_of sent (slots_after empty_slots done) entry
   told_one entry is = told_next entry.command entry.trial entry.bytes (next ∙ ap (λ (c : Command). Some c) (sym is))
 
   below_one : (entry : LogEntry) → entry.command ≡ command → IsBelow (length sent) entry.command
@@ -194,12 +155,12 @@ module _ {T O : Type 0} (enc : EncoderConfig) (whole : List Decision) (moment : 
       of_next (Show slot) is = tt
 
   -- trials of it
-  told_trials : (trials : List LogEntry) → All (IsTrialOf command) trials → flat_map (told_at moment) trials ≡ told_entries sent (slots_after empty_slots done) trials
+  told_trials : (trials : List LogEntry) → All (IsTrialOf command) trials → flat_map (handed_at moment) trials ≡ handed_entries sent (slots_after empty_slots done) trials
   told_trials [] tried = refl
   told_trials (trial ∷ trials) tried =
       let here = All-head (IsTrialOf command) trial trials tried in
-      ap₂ (λ (a b : List (Told T)). a ++ b) (told_one trial here.1) (told_trials trials (All-tail (IsTrialOf command) trial trials tried))
-      ∙ ap (λ (s : Slots). told_of sent (slots_after empty_slots done) trial ++ told_entries sent s trials)
+      ap₂ (λ (a b : List (Handed T)). a ++ b) (told_one trial here.1) (told_trials trials (All-tail (IsTrialOf command) trial trials tried))
+      ∙ ap (λ (s : Slots). handed_of sent (slots_after empty_slots done) trial ++ handed_entries sent s trials)
       (sym (cond-true trial.trial (slots_after empty_slots done) (slots_after_one (slots_after empty_slots done) trial.command) here.0))
 
   trials_stay : (trials : List LogEntry) → All (IsTrialOf command) trials → told_slots (slots_after empty_slots done) trials ≡ slots_after empty_slots done
@@ -216,12 +177,12 @@ module _ {T O : Type 0} (enc : EncoderConfig) (whole : List Decision) (moment : 
 
   -- trials, and then the command itself
   told_log : (trials : List LogEntry) (entry : LogEntry) → All (IsTrialOf command) trials → entry.command ≡ command →
-      flat_map (told_at moment) (trials ++ entry ∷ []) ≡ told_entries sent (slots_after empty_slots done) (trials ++ entry ∷ [])
+      flat_map (handed_at moment) (trials ++ entry ∷ []) ≡ handed_entries sent (slots_after empty_slots done) (trials ++ entry ∷ [])
   told_log trials entry tried is =
-      flat_map-append (told_at moment) trials (entry ∷ [])
-      ∙ ap₂ (λ (a b : List (Told T)). a ++ b) (told_trials trials tried) (ap (λ (l : List (Told T)). l ++ []) (told_one entry is))
-      ∙ ap (λ (s : Slots). told_entries sent (slots_after empty_slots done) trials ++ told_entries sent s (entry ∷ [])) (sym (trials_stay trials tried))
-      ∙ sym (told_entries-append sent (slots_after empty_slots done) trials (entry ∷ []))
+      flat_map-append (handed_at moment) trials (entry ∷ [])
+      ∙ ap₂ (λ (a b : List (Handed T)). a ++ b) (told_trials trials tried) (ap (λ (l : List (Handed T)). l ++ []) (told_one entry is))
+      ∙ ap (λ (s : Slots). handed_entries sent (slots_after empty_slots done) trials ++ handed_entries sent s (entry ∷ [])) (sym (trials_stay trials tried))
+      ∙ sym (handed_entries-append sent (slots_after empty_slots done) trials (entry ∷ []))
 
 -- ---- of calls and turns
 
@@ -234,8 +195,7 @@ record IsTold {T O : Type 0} (enc : EncoderConfig) (whole : List Decision) (mome
   has : HasHistory enc whole moment calls turns
   below : AllBelow (length (accepted_in calls turns)) (entries_of turns)
   moment_is : moment ≡ moment_after enc whole calls turns
-  says : told_turns enc whole opening calls turns ≡ told_entries (accepted_in calls turns) empty_slots (entries_of turns)
-  each : length (told_turns enc whole opening calls turns) ≡ length (entries_of turns)
+  says : handed_turns enc whole opening calls turns ≡ handed_entries (accepted_in calls turns) empty_slots (entries_of turns)
 
 module _ {T O : Type 0} (enc : EncoderConfig) (whole : List Decision) (moment : Moment T O) (calls : List (Call T O)) (turns : List (Turn T O)) (so_far : IsTold enc whole moment calls turns) where
   slots_now : told_slots empty_slots (entries_of turns) ≡ slots_after empty_slots (command_list (real_entries (entries_of turns)))
@@ -243,27 +203,25 @@ module _ {T O : Type 0} (enc : EncoderConfig) (whole : List Decision) (moment : 
 
   -- what is told of further entries, where they say what the display machine says
   told_further : (log : List LogEntry) →
-      flat_map (told_at moment) log ≡ told_entries (accepted_in calls turns) (slots_after empty_slots (command_list (real_entries (entries_of turns)))) log →
-      told_turns enc whole opening calls turns ++ flat_map (told_at moment) log ≡ told_entries (accepted_in calls turns) empty_slots (entries_of turns ++ log)
+      flat_map (handed_at moment) log ≡ handed_entries (accepted_in calls turns) (slots_after empty_slots (command_list (real_entries (entries_of turns)))) log →
+      handed_turns enc whole opening calls turns ++ flat_map (handed_at moment) log ≡ handed_entries (accepted_in calls turns) empty_slots (entries_of turns ++ log)
   told_further log said =
-      ap₂ (λ (a b : List (Told T)). a ++ b) so_far.says (said ∙ ap (λ (s : Slots). told_entries (accepted_in calls turns) s log) (sym slots_now))
-      ∙ sym (told_entries-append (accepted_in calls turns) empty_slots (entries_of turns) log)
+      ap₂ (λ (a b : List (Handed T)). a ++ b) so_far.says (said ∙ ap (λ (s : Slots). handed_entries (accepted_in calls turns) s log) (sym slots_now))
+      ∙ sym (handed_entries-append (accepted_in calls turns) empty_slots (entries_of turns) log)
 
   -- one turn's entries, and the frames that it accepts
   record SaysMore (more : List (Accepted T O)) (log : List LogEntry) : Type 0 where
     below : AllBelow (length (accepted_in calls turns ++ more)) (entries_of turns ++ log)
-    says : told_turns enc whole opening calls turns ++ flat_map (told_at moment) log ≡ told_entries (accepted_in calls turns ++ more) empty_slots (entries_of turns ++ log)
-    each : length (flat_map (told_at moment) log) ≡ length log
+    says : handed_turns enc whole opening calls turns ++ flat_map (handed_at moment) log ≡ handed_entries (accepted_in calls turns ++ more) empty_slots (entries_of turns ++ log)
 
   -- nothing is told where nothing is coded
   nothing_said : (more : List (Accepted T O)) → SaysMore more []
   nothing_said more = record {
     below = all-append (length (accepted_in calls turns ++ more)) (entries_of turns) [] (all_higher (length (accepted_in calls turns)) (length (accepted_in calls turns ++ more)) (entries_of turns) longer so_far.below) tt;
     says =
-        append-nil (told_turns enc whole opening calls turns) ∙ so_far.says
-        ∙ sym (told_entries-sent (accepted_in calls turns) more empty_slots (entries_of turns) so_far.below)
-        ∙ ap (told_entries (accepted_in calls turns ++ more) empty_slots) (sym (append-nil (entries_of turns)));
-    each = refl;
+        append-nil (handed_turns enc whole opening calls turns) ∙ so_far.says
+        ∙ sym (handed_entries-sent (accepted_in calls turns) more empty_slots (entries_of turns) so_far.below)
+        ∙ ap (handed_entries (accepted_in calls turns ++ more) empty_slots) (sym (append-nil (entries_of turns)));
   }
     where
       longer : length (accepted_in calls turns) ≤ length (accepted_in calls turns ++ more)
@@ -284,8 +242,7 @@ module _ {T O : Type 0} (enc : EncoderConfig) (whole : List Decision) (moment : 
         says =
             told_further (coding.trials ++ coding.entry ∷ [])
             (told_log enc whole moment (accepted_in calls turns) (command_list (real_entries (entries_of turns))) so_far.has.history.sound coding.entry.command coding.command coding.trials coding.entry coding.tried refl)
-            ∙ ap (λ (l : List (Accepted T O)). told_entries l empty_slots (entries_of turns ++ (coding.trials ++ coding.entry ∷ []))) (sym (append-nil (accepted_in calls turns)));
-        each = each_log enc whole moment (accepted_in calls turns) (command_list (real_entries (entries_of turns))) so_far.has.history.sound coding.entry.command coding.command coding.trials coding.entry coding.tried refl;
+            ∙ ap (λ (l : List (Accepted T O)). handed_entries l empty_slots (entries_of turns ++ (coding.trials ++ coding.entry ∷ []))) (sym (append-nil (accepted_in calls turns)));
       })
 
   told-turn : (call : Call T O) (turn : Turn T O) → IsTurn enc whole moment call turn → IsTold enc whole (after_turn enc whole moment call turn) (calls ++ call ∷ []) (turns ++ turn ∷ [])
@@ -298,16 +255,10 @@ module _ {T O : Type 0} (enc : EncoderConfig) (whole : List Decision) (moment : 
             ap (λ (m : Moment T O). after_turn enc whole m call turn) so_far.moment_is
             ∙ sym (moment_push enc whole opening calls turns call turn so_far.has.same_length);
         says =
-            told_turns-push enc whole opening calls turns call turn so_far.has.same_length
-            ∙ ap (λ (m : Moment T O). told_turns enc whole opening calls turns ++ flat_map (told_at m) turn.log) (sym so_far.moment_is)
+            handed_turns-push enc whole opening calls turns call turn so_far.has.same_length
+            ∙ ap (λ (m : Moment T O). handed_turns enc whole opening calls turns ++ flat_map (handed_at m) turn.log) (sym so_far.moment_is)
             ∙ said.says
-            ∙ ap₂ (λ (s : List (Accepted T O)) (e : List LogEntry). told_entries s empty_slots e) (sym (accepted-push calls turns call turn so_far.has.same_length)) (sym (entries-push turns turn));
-        each =
-            ap length (told_turns-push enc whole opening calls turns call turn so_far.has.same_length
-            ∙ ap (λ (m : Moment T O). told_turns enc whole opening calls turns ++ flat_map (told_at m) turn.log) (sym so_far.moment_is))
-            ∙ length-append (told_turns enc whole opening calls turns) (flat_map (told_at moment) turn.log)
-            ∙ ap₂ (λ (a b : ℕ). a + b) so_far.each said.each
-            ∙ sym (ap length (entries-push turns turn) ∙ length-append (entries_of turns) turn.log);
+            ∙ ap₂ (λ (s : List (Accepted T O)) (e : List LogEntry). handed_entries s empty_slots e) (sym (accepted-push calls turns call turn so_far.has.same_length)) (sym (entries-push turns turn));
       }
 
 told-after : {T O : Type 0} (enc : EncoderConfig) (whole : List Decision) (calls : List (Call T O)) (turns : List (Turn T O)) → AreTurns enc whole calls turns →
@@ -315,34 +266,21 @@ told-after : {T O : Type 0} (enc : EncoderConfig) (whole : List Decision) (calls
 told-after {T} {O} enc whole calls turns are =
     runs-along (IsTurn enc whole) (after_turn enc whole) (IsTold enc whole)
     (λ m done answered call turn so_far is. told-turn enc whole m done answered so_far call turn is)
-    opening [] [] calls turns (record { has = history-none enc whole; below = tt; moment_is = refl; says = refl; each = refl }) are
+    opening [] [] calls turns (record { has = history-none enc whole; below = tt; moment_is = refl; says = refl }) are
 
--- told turn by turn is what the coder took
-pub taken-all : {T O : Type 0} (enc : EncoderConfig) (whole : List Decision) (calls : List (Call T O)) (turns : List (Turn T O)) (before after : Heard T) → AreTurns enc whole calls turns →
-    Grew before.coder after.coder (told_turns enc whole opening calls turns) → IsTaken (accepted_in calls turns) (entries_of turns) before after
-taken-all enc whole calls turns before after are grew =
-    let told = told-after enc whole calls turns are in
-    record { grew = subst (Grew before.coder after.coder) told.says grew; each = sym (ap length told.says) ∙ told.each }
+-- what is handed turn by turn is what the display machine says
+pub handed-all : {T O : Type 0} (enc : EncoderConfig) (whole : List Decision) (calls : List (Call T O)) (turns : List (Turn T O)) → AreTurns enc whole calls turns →
+    handed_turns enc whole opening calls turns ≡ handed_entries (accepted_in calls turns) empty_slots (entries_of turns)
+handed-all enc whole calls turns are = (told-after enc whole calls turns are).says
 
--- also what was tried for the next command
-pub taken-of : {T O : Type 0} (enc : EncoderConfig) (whole : List Decision) (calls : List (Call T O)) (turns : List (Turn T O)) (before after : Heard T) (number : ℕ) (command : Command) (trials : List LogEntry) →
+-- also with what was tried for the next command
+pub handed-tried : {T O : Type 0} (enc : EncoderConfig) (whole : List Decision) (calls : List (Call T O)) (turns : List (Turn T O)) (number : ℕ) (command : Command) (trials : List LogEntry) →
     AreTurns enc whole calls turns → IsCodedNext enc (moment_after enc whole calls turns) number command → BeginTrials enc (moment_after enc whole calls turns) command trials →
-    Grew before.coder after.coder (told_turns enc whole opening calls turns ++ flat_map (told_at (moment_after enc whole calls turns)) trials) →
-    IsTaken (accepted_in calls turns) (entries_of turns ++ trials) before after
-taken-of {T} {O} enc whole calls turns before after number command trials are due tried grew =
+    handed_turns enc whole opening calls turns ++ flat_map (handed_at (moment_after enc whole calls turns)) trials
+    ≡ handed_entries (accepted_in calls turns) empty_slots (entries_of turns ++ trials)
+handed-tried {T} {O} enc whole calls turns number command trials are due tried =
     let told = told-after enc whole calls turns are in
     let due_command = ap (slice_get (plan_at enc (moment_after enc whole calls turns))) due.next ∙ due.command_of in
-    let tried_all = trials-begin enc (moment_after enc whole calls turns) command trials tried in
-    let says = told_further enc whole (moment_after enc whole calls turns) calls turns told trials
+    told_further enc whole (moment_after enc whole calls turns) calls turns told trials
     (told_trials enc whole (moment_after enc whole calls turns) (accepted_in calls turns) (command_list (real_entries (entries_of turns))) told.has.history.sound command
-    due_command trials tried_all) in
-    record {
-      grew = subst (Grew before.coder after.coder) says grew;
-      each =
-          sym (ap length says)
-          ∙ length-append (told_turns enc whole opening calls turns) (flat_map (told_at (moment_after enc whole calls turns)) trials)
-          ∙ ap₂ (λ (a b : ℕ). a + b) told.each
-          (each_trial enc whole (moment_after enc whole calls turns) (accepted_in calls turns) (command_list (real_entries (entries_of turns))) told.has.history.sound command
-          due_command trials tried_all)
-          ∙ sym (length-append (entries_of turns) trials);
-    }
+    due_command trials (trials-begin enc (moment_after enc whole calls turns) command trials tried))

@@ -15,10 +15,10 @@ use Rattle.session_core.specs.declared.transcript.Turn.{Turn}
 use Rattle.session_core.specs.Decisions.{decided_count, decisions_at}
 use Rattle.session_core.specs.Moments.{Accepted, Moment, opening}
 use Rattle.session_core.specs.Sessions.{AreTurns, moment_after}
-use Rattle.session_core.specs.States.{told_at}
-use Rattle.session_core.specs.Told.{Told}
+use Rattle.session_core.specs.Taken.{handed_at}
+use Rattle.session_core.specs.Told.{Handed}
 use Rattle.session_core.specs.Turns.{accepted_of, after_send, after_flush, Decides, after_turn, IsTurn}
-use Rattle.session_core.proofs.Taken.{told_turns}
+use Rattle.session_core.proofs.Taken.{handed_turns}
 
 -- the first of them, where there are enough
 same-first : {A : Type 0} (count : ℕ) (whole more : List A) → length (take count whole) ≡ count → take count (whole ++ more) ≡ take count whole
@@ -66,15 +66,15 @@ module _ {T O : Type 0} (enc : EncoderConfig) (whole more : List Decision) where
   widen calls turns are =
       runs-same (IsTurn enc whole) (IsTurn enc (whole ++ more)) (after_turn enc whole) (after_turn enc (whole ++ more)) widen-turn opening calls turns are
 
-  -- so the same is told
-  told-from : (moment : Moment T O) (calls : List (Call T O)) (turns : List (Turn T O)) → Runs (IsTurn enc whole) (after_turn enc whole) moment calls turns →
-      told_turns enc (whole ++ more) moment calls turns ≡ told_turns enc whole moment calls turns
-  told-from moment [] turns are = refl
-  told-from moment (call ∷ calls) [] are = refl
-  told-from moment (call ∷ calls) (turn ∷ turns) are =
-      ap (λ (m : Moment T O). flat_map (told_at moment) turn.log ++ told_turns enc (whole ++ more) m calls turns) (widen-turn moment call turn are.0).1
-      ∙ ap (λ (l : List (Told T)). flat_map (told_at moment) turn.log ++ l) (told-from (after_turn enc whole moment call turn) calls turns are.1)
+  -- so the same is handed over
+  handed-from : (moment : Moment T O) (calls : List (Call T O)) (turns : List (Turn T O)) → Runs (IsTurn enc whole) (after_turn enc whole) moment calls turns →
+      handed_turns enc (whole ++ more) moment calls turns ≡ handed_turns enc whole moment calls turns
+  handed-from moment [] turns are = refl
+  handed-from moment (call ∷ calls) [] are = refl
+  handed-from moment (call ∷ calls) (turn ∷ turns) are =
+      ap (λ (m : Moment T O). flat_map (handed_at moment) turn.log ++ handed_turns enc (whole ++ more) m calls turns) (widen-turn moment call turn are.0).1
+      ∙ ap (λ (l : List (Handed T)). flat_map (handed_at moment) turn.log ++ l) (handed-from (after_turn enc whole moment call turn) calls turns are.1)
 
-  pub widen-told : (calls : List (Call T O)) (turns : List (Turn T O)) → AreTurns enc whole calls turns →
-      told_turns enc (whole ++ more) opening calls turns ≡ told_turns enc whole opening calls turns
-  widen-told calls turns are = told-from opening calls turns are
+  pub widen-handed : (calls : List (Call T O)) (turns : List (Turn T O)) → AreTurns enc whole calls turns →
+      handed_turns enc (whole ++ more) opening calls turns ≡ handed_turns enc whole opening calls turns
+  widen-handed calls turns are = handed-from opening calls turns are

@@ -2,16 +2,23 @@
 use Rattle.std.specs.Prelude.{◌≡◌, ℕ, ◌++◌, List, length, take, Some, None}
 use Rattle.std.specs.List.{slice_get}
 use Rattle.av1_settings.specs.declared.encoder.EncoderConfig.{EncoderConfig}
+use Rattle.coding_base.specs.Faults.{Rose}
 use Rattle.pyramid.specs.declared.command.Command.{Command}
+use Rattle.pyramid.specs.Display.{empty_slots}
 use Rattle.session_core.specs.declared.call.Call.{Call}
 use Rattle.session_core.specs.declared.call.Call.TheVariants.{Receive}
+use Rattle.session_core.specs.declared.fault.SessionFault.{SessionFault}
+use Rattle.session_core.specs.declared.fault.SessionFault.TheVariants.{Coder, OutOfMemory}
+use Rattle.session_core.specs.declared.session.SessionError.{SessionError}
+use Rattle.session_core.specs.declared.session.SessionError.TheVariants.{CoderFault, OutOfMemory as NoMemory}
 use Rattle.session_core.specs.declared.transcript.Decision.{Decision}
 use Rattle.session_core.specs.declared.transcript.LogEntry.{LogEntry}
 use Rattle.session_core.specs.declared.transcript.Turn.{Turn}
 use Rattle.session_core.specs.Moments.{Moment, plan_at}
 use Rattle.session_core.specs.Questions.{IsAsked}
-use Rattle.session_core.specs.Sessions.{AreTurns, AreKeyDecisions, IsTaken, moment_after, accepted_in, entries_of, commands_of}
-use Rattle.session_core.specs.Told.{AreGiven, FailsBehind, Heard}
+use Rattle.session_core.specs.Sessions.{AreTurns, AreKeyDecisions, moment_after, accepted_in, entries_of, commands_of, handed_entries, packets_of}
+use Rattle.session_core.specs.Taken.{IsTaken}
+use Rattle.session_core.specs.Told.{FailsBehind, Heard}
 use Rattle.session_core.specs.Turns.{BeginTrials, held_back}
 
 -- a receive at this moment codes the command of this number
@@ -37,7 +44,14 @@ pub record FailsAt {T O : Type 0} (enc : EncoderConfig) (calls : List (Call T O)
   pub coded : length (commands_of turns) ≡ number
   pub first : commands_of turns ≡ take number (plan_at enc (moment_after enc decisions (take done calls) turns))
   pub tried : BeginTrials enc (moment_after enc decisions (take done calls) turns) command trials
-  pub taken : IsTaken (accepted_in (take done calls) turns) (entries_of turns ++ trials) before after
-  pub given : AreGiven before.gives (entries_of turns ++ trials)
+  pub taken : IsTaken
+      (handed_entries (accepted_in (take done calls) turns) empty_slots (entries_of turns ++ trials))
+      (entries_of turns ++ trials) (packets_of turns) before.coder after.coder
   -- where it tells its first failing call ahead, it is this one
-  pub reached : FailsBehind before.fails_after (length (entries_of turns ++ trials))
+  pub reached : FailsBehind before.coder.fails_after (length (entries_of turns ++ trials))
+  pub rose : Rose before.coder.faults after.coder.faults
+
+-- the error of a list of calls, for the fault of one of them
+abbrev pub error_of : SessionFault → SessionError
+error_of (Coder command) = CoderFault command
+error_of OutOfMemory = NoMemory

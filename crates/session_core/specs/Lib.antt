@@ -1,9 +1,13 @@
 pub mod Answers
+pub mod Contexts
 pub mod Decisions
+pub mod Held
 pub mod Moments
 pub mod PacketText
 pub mod Questions
 pub mod Sessions
 pub mod States
+pub mod Steps
+pub mod Taken
 pub mod Told
 pub mod Turns

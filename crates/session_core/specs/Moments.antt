@@ -4,6 +4,7 @@ use Rattle.std.specs.List.{slice_get}
 use Rattle.av1_frame.specs.declared.frame.Frame.{Frame}
 use Rattle.av1_settings.specs.declared.encoder.EncoderConfig.{EncoderConfig}
 use Rattle.av1_settings.specs.declared.frame_type.FrameType.{FrameType}
+use Rattle.av1_settings.specs.declared.t35.T35.{T35}
 use Rattle.pyramid.specs.declared.command.Command.{Command}
 use Rattle.av1_settings.specs.Settings.{interval_of}
 use Rattle.pyramid.specs.Settings.{numbers_of}
@@ -12,11 +13,12 @@ use Rattle.pyramid.specs.Known.{known}
 use Rattle.session_core.specs.declared.transcript.Decision.{Decision}
 use Rattle.session_core.specs.Decisions.{keys_of}
 
--- a frame as it was accepted: its picture, whether it was sent as a key frame, and the value sent with it
+-- a frame as it was accepted: its picture, whether it was sent as a key frame, and the value and the metadata sent with it
 pub record Accepted (T O : Type 0) : Type 0 where
   pub picture : Frame T
   pub forced : Bool
   pub opaque : Option O
+  pub t35 : List T35
 
 -- how a frame was coded
 pub record Coding : Type 0 where

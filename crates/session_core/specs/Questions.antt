@@ -44,8 +44,8 @@ AreAnswered answers decisions =
 
 -- the detector was asked exactly these questions, and its answers are the decisions
 pub record IsAsked {T O : Type 0} (enc : EncoderConfig) (sent : List (Accepted T O)) (decisions : List Decision) (before after : Heard T) : Type 0 where
-  pub grew : Grew before.detector after.detector (questions enc sent decisions)
-  pub ahead : AreAnswered before.answers decisions
+  pub grew : Grew before.detector.questions after.detector.questions (questions enc sent decisions)
+  pub ahead : AreAnswered before.detector.answers decisions
 
 -- ---- of one call
 

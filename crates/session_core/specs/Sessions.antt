@@ -15,12 +15,13 @@ use Rattle.session_core.specs.declared.packet.Packet.{Packet}
 use Rattle.session_core.specs.declared.transcript.Decision.{Decision}
 use Rattle.session_core.specs.declared.transcript.LogEntry.{LogEntry}
 use Rattle.session_core.specs.declared.transcript.Reply.{Reply}
-use Rattle.session_core.specs.declared.transcript.Reply.TheVariants.{Sent, Packet as GivesPacket}
+use Rattle.session_core.specs.declared.transcript.Reply.TheVariants.{Sent}
 use Rattle.session_core.specs.declared.transcript.Transcript.{Transcript}
 use Rattle.session_core.specs.declared.transcript.Turn.{Turn}
 use Rattle.session_core.specs.Moments.{Accepted, Moment, opening, plan_at}
 use Rattle.session_core.specs.Questions.{IsAsked}
-use Rattle.session_core.specs.Told.{Told, Coded, Shown, AreBeforeFault, AreGiven, Grew, Heard}
+use Rattle.session_core.specs.Taken.{IsTaken, job_of, packet_of}
+use Rattle.session_core.specs.Told.{Handed, ToShow, AreBeforeFault, Heard}
 use Rattle.session_core.specs.Turns.{IsTurn, after_turn, accepted_of, real_entries, is_showing, delimiter}
 
 -- ---- a list of calls and its turns
@@ -56,10 +57,6 @@ entries_of turns = flat_map (λ turn. turn.log) turns
 abbrev pub commands_of : {T O : Type 0} → List (Turn T O) → List Command
 commands_of turns = map (λ entry. entry.command) (real_entries (entries_of turns))
 
-abbrev pub packet_of : {T O : Type 0} → Reply T O → List (Packet T O)
-packet_of (GivesPacket packet) = packet ∷ []
-packet_of reply = []
-
 -- the packets given, in order
 abbrev pub packets_of : {T O : Type 0} → List (Turn T O) → List (Packet T O)
 packets_of turns = flat_map (λ turn. packet_of turn.reply) turns
@@ -73,35 +70,24 @@ pub record AreKeyDecisions {T O : Type 0} (sent : List (Accepted T O)) (decision
       ≡ map (λ position. option_map_or (λ accepted. accepted.forced) (slice_get sent position) false) (range_with_len 1 (length decisions))
   pub keys : All (λ decision. IsTrue decision.forced → IsTrue decision.key) decisions
 
--- ---- what the coder took
+-- ---- what the coder is handed
 
--- what the coder tells of an entry: a code was handed the picture sent under its number, a show the number of the frame
--- that the slot holds
-abbrev pub told_of : {T O : Type 0} → List (Accepted T O) → Slots → LogEntry → List (Told T)
-told_of sent slots entry =
+-- for an entry: to code, the frame sent under its number; to show, the number of the frame that the slot holds
+abbrev pub handed_of : {T O : Type 0} → List (Accepted T O) → Slots → LogEntry → List (Handed T)
+handed_of sent slots entry =
     elim entry.command [
       | Code frame kind refs refresh shown ↦
-          option_to_list (option_map (λ accepted. Coded (record {
-            command = entry.command;
-            trial = entry.trial;
-            picture = accepted.picture;
-            bytes = entry.bytes;
-          })) (slice_get sent frame))
+          option_to_list (option_map (job_of entry.command entry.trial) (slice_get sent frame))
       | Show slot ↦
-          option_to_list (option_map (λ frame. Shown (record { slot = slot; frame = frame; bytes = entry.bytes })) (held slots slot))
+          option_to_list (option_map (λ frame. ToShow (record { slot = slot; frame = frame })) (held slots slot))
     ]
 
 -- the slots move with the entries that aren't trials
-abbrev pub told_entries : {T O : Type 0} → List (Accepted T O) → Slots → List LogEntry → List (Told T)
-told_entries sent slots [] = []
-told_entries sent slots (entry ∷ entries) =
-    told_of sent slots entry
-    ++ told_entries sent (if entry.trial then slots else slots_after_one slots entry.command) entries
-
--- the coder took exactly these entries, played from empty slots, each once
-pub record IsTaken {T O : Type 0} (sent : List (Accepted T O)) (entries : List LogEntry) (before after : Heard T) : Type 0 where
-  pub grew : Grew before.coder after.coder (told_entries sent empty_slots entries)
-  pub each : length (told_entries sent empty_slots entries) ≡ length entries
+abbrev pub handed_entries : {T O : Type 0} → List (Accepted T O) → Slots → List LogEntry → List (Handed T)
+handed_entries sent slots [] = []
+handed_entries sent slots (entry ∷ entries) =
+    handed_of sent slots entry
+    ++ handed_entries sent (if entry.trial then slots else slots_after_one slots entry.command) entries
 
 -- ---- the headline
 
@@ -174,10 +160,12 @@ pub record IsSessionRun {T O : Type 0} (enc : EncoderConfig) (calls : List (Call
   -- they are the detector's answers, but for the frames sent as key frames
   pub asked : IsAsked enc (accepted_in calls transcript.turns) transcript.decisions before after
   pub headline : Headline enc transcript.decisions calls transcript.turns
-  pub taken : IsTaken (accepted_in calls transcript.turns) (entries_of transcript.turns) before after
-  -- they are what the coder told ahead, and come before its first failing call
-  pub given : AreGiven before.gives (entries_of transcript.turns)
-  pub unreached : AreBeforeFault before.fails_after (length (entries_of transcript.turns))
+  -- the coder took the commands, played from empty slots, with the frames sent under their numbers
+  pub taken : IsTaken
+      (handed_entries (accepted_in calls transcript.turns) empty_slots (entries_of transcript.turns))
+      (entries_of transcript.turns) (packets_of transcript.turns) before.coder after.coder
+  -- they come before its first failing call
+  pub unreached : AreBeforeFault before.coder.fails_after (length (entries_of transcript.turns))
 
 -- ---- schedules
 

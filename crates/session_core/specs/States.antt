@@ -1,5 +1,5 @@
 -- The state of a session as a moment, and what each step of it knows and leaves.
-use Rattle.std.specs.Prelude.{◌≡◌, ℕ, ◌+◌, ◌≤◌, ◌<◌, Bool, false, List, [], ◌∷◌, ◌++◌, map, length, IsSome, Option, Some, None}
+use Rattle.std.specs.Prelude.{◌≡◌, ⊤, if◌then◌else◌, ℕ, ◌+◌, ◌≤◌, ◌<◌, Bool, false, List, [], ◌∷◌, ◌++◌, map, length, IsSome, Option, Some, None}
 use Rattle.std.specs.Option.{option_map, option_and_then, option_to_list}
 use Rattle.std.specs.List.{flat_map, range_with_len, slice_get}
 use Rattle.coding_base.specs.Faults.{Rose}
@@ -8,22 +8,28 @@ use Rattle.av1_settings.specs.declared.speed.SceneDetectionSpeed.{SceneDetection
 use Rattle.pyramid.specs.declared.command.Command.{Command}
 use Rattle.pyramid.specs.declared.command.Command.TheVariants.{Code, Show}
 use Rattle.pyramid.specs.Settings.{numbers_of}
-use Rattle.session_core.specs.declared.session.SessionError.{SessionError}
-use Rattle.session_core.specs.declared.session.SessionError.TheVariants.{Invalid, CoderFault, OutOfMemory, Unbuilt}
-use Rattle.session_core.specs.declared.state.WaitingFrame.{WaitingFrame}
+use Rattle.session_core.specs.declared.coded.Coded.{Coded}
+use Rattle.session_core.specs.declared.fault.SessionFault.{SessionFault}
+use Rattle.session_core.specs.declared.fault.SessionFault.TheVariants.{Coder, OutOfMemory}
+use Rattle.session_core.specs.declared.waiting.WaitingFrame.{WaitingFrame}
 use Rattle.session_core.specs.declared.state.SessionState.{SessionState}
 use Rattle.session_core.specs.declared.transcript.Decision.{Decision}
-use Rattle.session_core.specs.declared.transcript.LogEntry.{LogEntry}
-use Rattle.session_core.specs.Answers.{Codes}
+use Rattle.session_core.specs.declared.transcript.Reply.{Reply}
 use Rattle.session_core.specs.Decisions.{decided_count, keys_of}
 use Rattle.session_core.specs.Moments.{Waiting, Moment, waiting_at, plan_at}
 use Rattle.session_core.specs.Questions.{AreAnswered, frames_from, question}
-use Rattle.session_core.specs.Told.{Asked, Told, Coded, Shown, AreGiven, FailsBehind, Grew, OnlyGrew}
-use Rattle.session_core.specs.Turns.{AreMade, BeginTrials, frame_limit, held_back}
+use Rattle.session_core.specs.Taken.{handed_at, packet_of}
+use Rattle.session_core.specs.Told.{Asked, CoderTold, Gave, Told, FailsBehind, Grew}
+use Rattle.session_core.specs.Turns.{AreMade, frame_limit, held_back, is_showing}
 
 abbrev pub waiting_of : {T O : Type 0} → WaitingFrame T O → Waiting T O
 waiting_of one = record {
-  frame = record { picture = one.picture.value; forced = one.forced; opaque = one.opaque };
+  frame = record {
+    picture = one.picture.value;
+    forced = one.forced;
+    opaque = one.opaque;
+    t35 = one.t35.value;
+  };
   coded = option_map (λ kind. record { kind = kind }) one.kind;
 }
 
@@ -75,36 +81,27 @@ pub record IsReady {T O : Type 0} (enc : EncoderConfig) (moment : Moment T O) : 
   pub there : held_back enc moment ≡ None → moment.commands < length (plan_at enc moment)
   pub next : (command : Command) → slice_get (plan_at enc moment) moment.commands ≡ Some command → CanCode moment command
 
--- what a coder tells of an entry: a code was handed the picture that waits under its number, a show the number of the
--- next packet
-abbrev pub told_at : {T O : Type 0} → Moment T O → LogEntry → List (Told T)
-told_at moment entry =
-    elim entry.command [
-      | Code frame kind refs refresh shown ↦
-          option_to_list (option_map (λ waiting. Coded (record {
-            command = entry.command;
-            trial = entry.trial;
-            picture = waiting.frame.picture;
-            bytes = entry.bytes;
-          })) (waiting_at moment frame))
-      | Show slot ↦ Shown (record { slot = slot; frame = moment.packets; bytes = entry.bytes }) ∷ []
-    ]
-
 -- a call of the coder failed: its count rose and it told nothing, or memory ran out
-abbrev pub FailsCoding : {T : Type 0} → ℕ → Option (Option ℕ) → Option (List (Told T)) → Option (List (Told T)) → ℕ → ℕ → SessionError → Type 0
-FailsCoding commands fails_after told_before told_after before after (Invalid refusal) = ⊥
-FailsCoding commands fails_after told_before told_after before after (CoderFault number) =
-    (number ≡ commands) × Grew told_before told_after [] × FailsBehind fails_after 0 × Rose before after
-FailsCoding commands fails_after told_before told_after before after OutOfMemory = OnlyGrew told_before told_after
-FailsCoding commands fails_after told_before told_after before after Unbuilt = ⊥
+abbrev pub FailsCoding : {T : Type 0} → ℕ → CoderTold T → CoderTold T → SessionFault → Type 0
+FailsCoding commands told now (Coder number) =
+    (number ≡ commands) × Grew told.calls now.calls [] × FailsBehind told.fails_after 0 × Rose told.faults now.faults
+FailsCoding commands told now OutOfMemory = ⊤
 
--- a call failed: in a receive the coder's count rose, and it told what was tried; or memory ran out, and what is told only
--- grew
-abbrev pub Fails : {T O : Type 0} → EncoderConfig → Moment T O → Option (Command → List ℕ) → Option (Option ℕ) → Option (List (Told T)) → Option (List (Told T)) → ℕ → ℕ → SessionError → Type 0
-Fails enc moment gives fails_after told_before told_after before after (Invalid refusal) = ⊥
-Fails enc moment gives fails_after told_before told_after before after (CoderFault number) =
-    (command : Command) × (trials : List LogEntry) × Codes enc moment number command × BeginTrials enc moment command trials
-    × Grew told_before told_after (flat_map (told_at moment) trials) × AreGiven gives trials × FailsBehind fails_after (length trials)
-    × Rose before after
-Fails enc moment gives fails_after told_before told_after before after OutOfMemory = OnlyGrew told_before told_after
-Fails enc moment gives fails_after told_before told_after before after Unbuilt = ⊥
+-- what the coder gave for an entry
+abbrev pub gave_of : {T : Type 0} → Coded T → Gave T
+gave_of coded = record {
+  bytes = coded.entry.bytes;
+  rec = option_map (λ rec. rec.value) coded.rec;
+  stats = coded.stats;
+}
+
+-- what it tells of that
+abbrev pub told_at : {T O : Type 0} → Moment T O → Coded T → List (Told T)
+told_at moment coded = map (λ job. record { handed = job; gave = gave_of coded }) (handed_at moment coded.entry)
+
+-- the packet of a reply has the coder's picture and counts
+pub record Carries {T O : Type 0} (coded : Coded T) (reply : Reply T O) : Type 0 where
+  pub recs : map (λ packet. option_map (λ rec. rec.value) packet.rec) (packet_of reply)
+      ≡ (if is_showing coded.entry.command then (gave_of coded).rec ∷ [] else [])
+  pub stats : map (λ packet. packet.enc_stats) (packet_of reply)
+      ≡ (if is_showing coded.entry.command then coded.stats ∷ [] else [])

@@ -6,6 +6,7 @@ use Rattle.av1_frame.specs.declared.frame.Frame.{Frame}
 use Rattle.av1_frame.specs.Planes.{fits}
 use Rattle.av1_settings.specs.declared.encoder.EncoderConfig.{EncoderConfig}
 use Rattle.av1_settings.specs.declared.status.EncoderStatus.{EncoderStatus}
+use Rattle.av1_settings.specs.declared.t35.T35.{T35}
 use Rattle.av1_settings.specs.declared.status.EncoderStatus.TheVariants.{NeedMoreData, EnoughData, FrameSizeMismatch, LimitReached, Encoded}
 use Rattle.pyramid.specs.declared.command.Command.{Command}
 use Rattle.pyramid.specs.declared.command.Command.TheVariants.{Code, Show}
@@ -52,9 +53,17 @@ abbrev pub opaque_of : {O : Type 0} → Option (FrameParameters O) → Option O
 opaque_of None = None
 opaque_of (Some parameters) = parameters.opaque
 
+abbrev pub t35_of : {O : Type 0} → Option (FrameParameters O) → List T35
+t35_of None = []
+t35_of (Some parameters) = parameters.t35_metadata
+
 abbrev pub accepted_of : {T O : Type 0} → Frame T → Option (FrameParameters O) → Accepted T O
-accepted_of picture parameters =
-    record { picture = picture; forced = asks_key parameters; opaque = opaque_of parameters }
+accepted_of picture parameters = record {
+  picture = picture;
+  forced = asks_key parameters;
+  opaque = opaque_of parameters;
+  t35 = t35_of parameters;
+}
 
 -- the frame is accepted where the reply says so
 abbrev pub after_send : {T O : Type 0} → EncoderConfig → List Decision → Moment T O → Accepted T O → Reply T O → Moment T O

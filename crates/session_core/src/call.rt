@@ -1,4 +1,5 @@
 use av1_frame::Frame;
+use av1_settings::T35List;
 use std::sync::Arc;
 
 /// What a caller asks of a frame's type.
@@ -17,6 +18,8 @@ pub struct FrameParameters<O> {
     pub frame_type_override: FrameTypeOverride,
     /// A value that comes back with the frame's packet.
     pub opaque: Option<O>,
+    /// Metadata for the frame, which stays with it until it is coded.
+    pub t35_metadata: T35List,
 }
 
 /// A call of a session.

@@ -1,11 +1,10 @@
-ghost use Rattle.std.specs.Prelude.{◌≡◌, ◌≤◌, ◌<◌, ◌^◌, Option, List, ℕ, length, IfOk, IfSome};
+ghost use Rattle.std.specs.Prelude.{◌≡◌, ◌<◌, ◌^◌, length, IfOk};
 ghost use Rattle.coding_base.specs.Faults.{HasCause};
-ghost use Rattle.pyramid.specs.declared.command.Command.{Command};
-ghost use Rattle.pyramid.specs.declared.command.Command.TheVariants.{Show};
 ghost use Rattle.session_core.specs.declared.coder.CoderError.TheVariants.{Failed};
-ghost use Rattle.session_core.specs.Told.{Told, CountsBy, GrowsBy, told_code, told_show};
+ghost use Rattle.session_core.specs.Told.{CoderTold, CountsBy, GrowsBy, IsAhead, gave_code, gave_show, handed_code, handed_show, told_code, told_show};
 
 use av1_frame::Frame;
+use av1_settings::{EncoderStats, T35List};
 use coding_base::{Bytes, OutOfMemory};
 use pyramid::Command;
 use std::alloc::{AllocError, Global};
@@ -21,20 +20,30 @@ pub struct CodeJob<T> {
     pub trial: bool,
     /// The frame as it was sent.
     pub picture: Arc<Frame<T>>,
+    /// The metadata that was sent with it.
+    pub t35: Arc<T35List>,
 }
 
 /// What a coder gives back for a coded frame.
 #[derive(Drop)]
-pub struct CodedFrame {
+pub struct CodedFrame<T> {
     /// Its bytes: not empty, and fewer than 2^48.
     pub bytes: Bytes,
+    /// The frame as a decoder will show it, where the coder gives that.
+    pub rec: Option<Arc<Frame<T>>>,
+    /// What was chosen in it.
+    pub stats: EncoderStats,
 }
 
 /// What a coder gives back for a frame that it shows from a slot.
 #[derive(Drop)]
-pub struct ShownFrame {
+pub struct ShownFrame<T> {
     /// The three bytes of the header.
     pub bytes: [u8; 3],
+    /// The frame as a decoder will show it, where the coder gives that.
+    pub rec: Option<Arc<Frame<T>>>,
+    /// What was chosen in it.
+    pub stats: EncoderStats,
 }
 
 /// Why a coder gave nothing.
@@ -72,39 +81,35 @@ impl From<AllocError> for CoderError {
 
 /// Codes frames: the part of an encoder below the plan.
 pub trait FrameCoder<T> {
-    /// The calls that gave bytes, in order, where the coder tells them.
-    ghost told: { Self → Option (List (Told T)) };
-
-    /// The bytes that it gives for each command, where it tells them ahead.
-    ghost gives: { Self → Option (Command → List ℕ) };
-
-    /// How many further calls give bytes before the first that fails, where it tells that ahead: none, where none fails.
-    ghost fails_after: { Self → Option (Option ℕ) };
-
-    /// How often the coder failed.
-    ghost faults: { Self → ℕ };
+    /// What the coder tells of its calls, and ahead of those to come; each part only where it tells it, but for how often
+    /// it failed.
+    ghost told: { Self → CoderTold T };
 
     /// Codes a frame.
-    fn code(&mut self, alloc: Global, job: &CodeJob<T>) -> Result<CodedFrame, CoderError>
-        ensures told { GrowsBy (told self.old) (told self.new) result (told_code job.now) }
-        ensures given { IfOk result (λ coded.
-            IfSome (gives self.old) (λ bytes. coded.bytes ≡ bytes job.now.command)) }
-        ensures same_gives { gives self.new ≡ gives self.old }
-        ensures counted { CountsBy (fails_after self.old) (fails_after self.new) result }
+    fn code(&mut self, alloc: Global, job: &CodeJob<T>) -> Result<CodedFrame<T>, CoderError>
+        ensures calls { GrowsBy (told self.old).calls (told self.new).calls result
+            (told_code job.now) }
+        ensures ahead { IfOk result (λ coded.
+            IsAhead (told self.old) (handed_code job.now) (gave_code coded)) }
+        ensures same { (told self.new).gives ≡ (told self.old).gives }
+        ensures counted { CountsBy (told self.old).fails_after (told self.new).fails_after
+            result }
         ensures some_bytes { IfOk result (λ coded. 0 < length coded.bytes) }
         ensures few_bytes { IfOk result (λ coded. length coded.bytes < 2 ^ 48) }
-        ensures cause { HasCause Failed (faults self.old) (faults self.new) result };
+        ensures cause { HasCause Failed (told self.old).faults (told self.new).faults result };
 
     /// Shows what a slot holds, which is this frame.
-    fn show(&mut self, alloc: Global, slot: u8, frame: u64) -> Result<ShownFrame, CoderError>
-        ensures told { GrowsBy (told self.old) (told self.new) result (told_show slot frame) }
-        ensures given { IfOk result (λ shown.
-            IfSome (gives self.old) (λ bytes. shown.bytes ≡ bytes (Show slot))) }
-        ensures same_gives { gives self.new ≡ gives self.old }
-        ensures counted { CountsBy (fails_after self.old) (fails_after self.new) result }
-        ensures cause { HasCause Failed (faults self.old) (faults self.new) result };
+    fn show(&mut self, alloc: Global, slot: u8, frame: u64) -> Result<ShownFrame<T>, CoderError>
+        ensures calls { GrowsBy (told self.old).calls (told self.new).calls result
+            (told_show slot frame) }
+        ensures ahead { IfOk result (λ shown.
+            IsAhead (told self.old) (handed_show slot frame) (gave_show shown)) }
+        ensures same { (told self.new).gives ≡ (told self.old).gives }
+        ensures counted { CountsBy (told self.old).fails_after (told self.new).fails_after
+            result }
+        ensures cause { HasCause Failed (told self.old).faults (told self.new).faults result };
 
     /// How often the coder failed; the count stands still at its last value.
     fn faults(&self) -> u64
-        ensures { result ≡ faults self.now };
+        ensures { result ≡ (told self.now).faults };
 }

@@ -2,7 +2,7 @@
 ghost use Rattle.std.specs.Prelude.{◌≡◌, ◌≤◌, ◌<◌, ◌-◌, ◌+◌, [], ◌∷◌, IfOk, IsTrue, OnOk, length, map};
 ghost use Rattle.session_core.specs.Questions.{AreAnswered, frames_from, last_key, question};
 ghost use Rattle.session_core.specs.States.{moment_of, AreInOrder, Decided, KeepsKeys};
-ghost use Rattle.session_core.specs.Told.{Grew, OnlyGrew};
+ghost use Rattle.session_core.specs.Told.{Grew, IsDetectorLater};
 ghost use Rattle.session_core.specs.Turns.{forced_at, frame_limit};
 
 use crate::state::SessionState;
@@ -30,10 +30,10 @@ impl<T: Drop, O: Drop> SessionState<T, O> {
         requires within { last ≤ self.old.accepted - 1 }
         requires keys { KeepsKeys self.old }
         requires in_order { AreInOrder self.old.decisions.items }
-        ensures decided { OnOk result (Decided mode self.old self.new (D.told detector.old)
-            (D.told detector.new) (D.answers detector.old) last) }
-        ensures grew { OnlyGrew (D.told detector.old) (D.told detector.new) }
-        ensures same_answers { D.answers detector.new ≡ D.answers detector.old }
+        ensures decided { OnOk result (Decided mode self.old self.new
+            (D.told detector.old).questions (D.told detector.new).questions
+            (D.told detector.old).answers last) }
+        ensures later { IsDetectorLater (D.told detector.old) (D.told detector.new) }
     {
         for position in self.decisions.len() as u64 + 1..last + 1 {
             self.decide_at(alloc, mode, detector, position)?;
@@ -55,10 +55,10 @@ impl<T: Drop, O: Drop> SessionState<T, O> {
         requires within { position < self.old.accepted }
         requires keys { KeepsKeys self.old }
         requires in_order { AreInOrder self.old.decisions.items }
-        ensures decided { OnOk result (Decided mode self.old self.new (D.told detector.old)
-            (D.told detector.new) (D.answers detector.old) position) }
-        ensures grew { OnlyGrew (D.told detector.old) (D.told detector.new) }
-        ensures same_answers { D.answers detector.new ≡ D.answers detector.old }
+        ensures decided { OnOk result (Decided mode self.old self.new
+            (D.told detector.old).questions (D.told detector.new).questions
+            (D.told detector.old).answers position) }
+        ensures later { IsDetectorLater (D.told detector.old) (D.told detector.new) }
     {
         let forced = self.waiting[(position - self.packets) as usize].forced;
         let key = self.is_key(alloc, mode, detector, position, forced)?;
@@ -89,13 +89,12 @@ impl<T: Drop, O: Drop> SessionState<T, O> {
         requires keys { KeepsKeys self.now }
         requires in_order { AreInOrder self.now.decisions.items }
         ensures key { IfOk result (λ key. IsTrue forced → IsTrue key) }
-        ensures asked { IfOk result (λ key. Grew (D.told detector.old) (D.told detector.new)
-            (question mode (frames_from (moment_of self.now)) self.now.decisions.items
+        ensures asked { IfOk result (λ key. Grew (D.told detector.old).questions
+            (D.told detector.new).questions (question mode (frames_from (moment_of self.now)) self.now.decisions.items
             (record { position = position; forced = forced; key = key }))) }
-        ensures ahead { IfOk result (λ key. AreAnswered (D.answers detector.old)
+        ensures ahead { IfOk result (λ key. AreAnswered (D.told detector.old).answers
             (record { position = position; forced = forced; key = key } ∷ [])) }
-        ensures grew { OnlyGrew (D.told detector.old) (D.told detector.new) }
-        ensures same_answers { D.answers detector.new ≡ D.answers detector.old }
+        ensures later { IsDetectorLater (D.told detector.old) (D.told detector.new) }
     {
         if forced {
             return Ok(true);

@@ -1,5 +1,5 @@
-ghost use Rattle.std.specs.Prelude.{◌≡◌, Option, List, Bool, ℕ, None, Some, false, map, IfOk, IfSome};
-ghost use Rattle.session_core.specs.Told.{Asked, GrowsBy, told_ask};
+ghost use Rattle.std.specs.Prelude.{◌≡◌, None, Some, false, map, IfOk, IfSome};
+ghost use Rattle.session_core.specs.Told.{DetectorTold, GrowsBy, told_ask};
 
 use av1_frame::Frame;
 use av1_settings::SceneDetectionSpeed;
@@ -10,11 +10,9 @@ use std::sync::Arc;
 /// Finds scene changes. A session asks it once of each frame from the second on that wasn't sent as a key frame, in the order
 /// in which they were sent; where it answers yes the frame is a key frame.
 pub trait Detector<T> {
-    /// The questions that it answered, in order, where it tells them.
-    ghost told: { Self → Option (List (Asked T)) };
-
-    /// What it answers of each position, where it tells that ahead.
-    ghost answers: { Self → Option (ℕ → Bool) };
+    /// What the detector tells of the questions that it answered, and ahead of each position; each part only where it tells
+    /// it.
+    ghost told: { Self → DetectorTold T };
 
     /// Whether a scene begins with the frame of this input number. `frames` begins with the frame before it, and has those
     /// that are known behind it: so many as the settings' lookahead of the pyramid asks for, or fewer at the end.
@@ -28,11 +26,11 @@ pub trait Detector<T> {
         position: u64,
         last_key: u64,
     ) -> Result<bool, OutOfMemory>
-        ensures told { GrowsBy (told self.old) (told self.new) result
+        ensures questions { GrowsBy (told self.old).questions (told self.new).questions result
             (told_ask mode (map (λ frame. frame.value) frames.now) position last_key) }
         ensures answer { IfOk result (λ answer.
-            IfSome (answers self.old) (λ at. answer ≡ at position)) }
-        ensures same_answers { answers self.new ≡ answers self.old };
+            IfSome (told self.old).answers (λ at. answer ≡ at position)) }
+        ensures same_answers { (told self.new).answers ≡ (told self.old).answers };
 }
 
 /// Finds no scene change.
@@ -40,9 +38,7 @@ pub trait Detector<T> {
 pub struct NoDetector;
 
 impl<T> Detector<T> for NoDetector {
-    ghost told = { λ _. None };
-
-    ghost answers = { λ _. Some (λ _. false) };
+    ghost told = { λ _. record { questions = None; answers = Some (λ _. false) } };
 
     fn ask(
         &mut self,

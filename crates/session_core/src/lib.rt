@@ -2,21 +2,36 @@
 #![tactic(auto)]
 
 mod call;
+mod coded;
 mod coder;
+mod coding;
+mod context;
+mod context_inner;
 mod decisions;
 mod detector;
+mod fault;
+mod into_frame;
 mod packet;
+mod receive;
 mod session;
+mod setup;
 mod state;
 #[cfg(test)]
 mod tests;
 mod transcript;
+mod waiting;
 
+pub use av1_settings::{T35, T35List};
 pub use call::{Call, FrameParameters, FrameTypeOverride};
 pub use coder::{CodeJob, CodedFrame, CoderError, FrameCoder, ShownFrame};
+pub use context::{Context, NewContext};
+pub use context_inner::ContextInner;
 pub use detector::{Detector, NoDetector};
+pub use fault::SessionFault;
+pub use into_frame::{FrameInput, IntoFrame};
 pub use packet::Packet;
 pub use session::{SessionError, run_session};
+pub use setup::SetupError;
 pub use transcript::{
     Decision, DecisionList, LogEntry, LogList, Reply, Transcript, Turn, TurnList,
 };

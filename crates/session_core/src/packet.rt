@@ -1,5 +1,5 @@
 use av1_frame::Frame;
-use av1_settings::FrameType;
+use av1_settings::{EncoderStats, FrameType};
 use coding_base::Bytes;
 use std::fmt;
 use std::sync::Arc;
@@ -9,12 +9,16 @@ use std::sync::Arc;
 pub struct Packet<T, O> {
     /// The bytes, for a muxer.
     pub bytes: Bytes,
+    /// The frame as a decoder will show it, where the coder gave that with the packet's last command.
+    pub rec: Option<Arc<Frame<T>>>,
     /// The frame as it was sent.
     pub source: Option<Arc<Frame<T>>>,
     /// The frame's input number, from 0.
     pub input_frameno: u64,
     /// The frame's type; of a frame that was coded before and is shown now, the type that it was coded with.
     pub frame_type: FrameType,
+    /// What the coder chose in the packet's last command.
+    pub enc_stats: EncoderStats,
     /// The value that was sent with the frame.
     pub opaque: Option<O>,
 }

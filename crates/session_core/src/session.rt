@@ -1,14 +1,14 @@
-ghost use Rattle.std.specs.Prelude.{◌≡◌, ◌≤◌, ◌⊎◌, ℕ, [], None, Some, Err, IfOk, IsOk, pos, ◌<ℤ◌};
+ghost use Rattle.std.specs.Prelude.{◌≡◌, ◌⊎◌, ℕ, None, Some, Err, IfOk, IsOk, pos, ◌<ℤ◌};
 ghost use Rattle.coding_base.specs.Faults.{Rose};
 ghost use Rattle.av1_settings.specs.declared.invalid.InvalidConfig.{InvalidConfig};
 ghost use Rattle.av1_settings.specs.Checks.{session_refusal};
 ghost use Rattle.session_core.specs.declared.session.SessionError.TheVariants.{Invalid, CoderFault, Unbuilt};
 ghost use Rattle.session_core.specs.Answers.{FailsAt};
 ghost use Rattle.session_core.specs.Sessions.{IsSessionRun, KeepsSchedule};
-ghost use Rattle.session_core.specs.Told.{OnlyGrew};
+ghost use Rattle.session_core.specs.Told.{heard, IsLater};
 
 use crate::state::SessionState;
-use crate::{Call, DecisionList, Detector, FrameCoder, Transcript, TurnList};
+use crate::{Call, DecisionList, Detector, FrameCoder, SessionFault, Transcript, TurnList};
 use av1_frame::Pixel;
 use av1_settings::{Config, InvalidConfig, LevelTables};
 use coding_base::OutOfMemory;
@@ -43,6 +43,20 @@ impl From<OutOfMemory> for SessionError {
 
     fn from(_: OutOfMemory) -> Self {
         SessionError::OutOfMemory
+    }
+}
+
+impl From<SessionFault> for SessionError {
+    ghost use Rattle.session_core.specs.Answers.{error_of};
+    ghost use Rattle.std.specs.Prelude.{◌≡◌};
+
+    ghost from_gives = { λ fault e. e ≡ error_of fault };
+
+    fn from(fault: SessionFault) -> Self {
+        match fault {
+            SessionFault::Coder { command } => SessionError::CoderFault { command },
+            SessionFault::OutOfMemory => SessionError::OutOfMemory,
+        }
     }
 }
 
@@ -87,20 +101,8 @@ pub fn run_session<T: Pixel, O: Drop, D: Detector<T>, C: FrameCoder<T>>(
     // The headline, and what stands beside it.
     ensures session { IfOk result (λ t.
         IsSessionRun cfg.now.enc calls.items t
-        (record {
-          coder = C.told coder.old;
-          gives = C.gives coder.old;
-          fails_after = C.fails_after coder.old;
-          detector = D.told detector.old;
-          answers = D.answers detector.old;
-        })
-        (record {
-          coder = C.told coder.new;
-          gives = C.gives coder.new;
-          fails_after = C.fails_after coder.new;
-          detector = D.told detector.new;
-          answers = D.answers detector.new;
-        })) }
+        (heard (C.told coder.old) (D.told detector.old))
+        (heard (C.told coder.new) (D.told detector.new))) }
 
     // Other calls between the same frames, with the same decisions, give the same commands as far as both go.
     ensures schedules { IfOk result (λ t. KeepsSchedule cfg.now.enc calls.items t) }
@@ -120,35 +122,16 @@ pub fn run_session<T: Pixel, O: Drop, D: Detector<T>, C: FrameCoder<T>>(
     ensures fault { (command : ℕ)
         → result ≡ Err (CoderFault command)
         → FailsAt cfg.now.enc calls.items
-        (record {
-          coder = C.told coder.old;
-          gives = C.gives coder.old;
-          fails_after = C.fails_after coder.old;
-          detector = D.told detector.old;
-          answers = D.answers detector.old;
-        })
-        (record {
-          coder = C.told coder.new;
-          gives = C.gives coder.new;
-          fails_after = C.fails_after coder.new;
-          detector = D.told detector.new;
-          answers = D.answers detector.new;
-        }) command }
-    ensures fault_cause { (command : ℕ)
-        → result ≡ Err (CoderFault command)
-        → Rose (C.faults coder.old) (C.faults coder.new) }
+        (heard (C.told coder.old) (D.told detector.old))
+        (heard (C.told coder.new) (D.told detector.new)) command }
     ensures complete { session_refusal T.BITS levels.now cfg.now ≡ None
         → ¬ (pos 0 <ℤ cfg.now.enc.bitrate)
-        → ¬ Rose (C.faults coder.old) (C.faults coder.new)
+        → ¬ Rose (C.told coder.old).faults (C.told coder.new).faults
         → IsOk result ⊎ (result ≡ Err SessionError.OutOfMemory) }
 
-    // The coder's count doesn't fall, what coder and detector tell only grows, and what they tell ahead stays; neither is
-    // called where the session doesn't begin.
-    ensures later { C.faults coder.old ≤ C.faults coder.new }
-    ensures kept { OnlyGrew (C.told coder.old) (C.told coder.new) }
-    ensures same_gives { C.gives coder.new ≡ C.gives coder.old }
-    ensures kept_questions { OnlyGrew (D.told detector.old) (D.told detector.new) }
-    ensures same_answers { D.answers detector.new ≡ D.answers detector.old }
+    // What coder and detector tell goes on; neither is called where the session doesn't begin.
+    ensures later { IsLater (heard (C.told coder.old) (D.told detector.old))
+        (heard (C.told coder.new) (D.told detector.new)) }
     ensures untouched { (v : InvalidConfig)
         → session_refusal T.BITS levels.now cfg.now ≡ Some v
         → (coder.new ≡ coder.old) × (detector.new ≡ detector.old) }
@@ -166,7 +149,7 @@ pub fn run_session<T: Pixel, O: Drop, D: Detector<T>, C: FrameCoder<T>>(
     for call in calls {
         match state.turn(alloc, &cfg.enc, detector, coder, call) {
             Ok(turn) => turns.push(turn)?,
-            Err(error) => return Err(error),
+            Err(fault) => return Err(SessionError::from(fault)),
         }
     }
     Ok(Transcript {

@@ -1,24 +1,21 @@
-// The state of a session, and what one call does to it.
-ghost use Rattle.std.specs.Prelude.{◌≡◌, ◌≤◌, ◌<◌, ◌-◌, ◌+◌, [], ◌∷◌, ◌++◌, false, IfOk, IfErr, IsSome, OnOk, length, take, drop, Some};
-ghost use Rattle.std.specs.List.{flat_map, slice_get};
-ghost use Rattle.std.specs.Option.{option_map};
-ghost use Rattle.session_core.specs.declared.call.Call.TheVariants.{Receive};
-ghost use Rattle.session_core.specs.declared.session.SessionError.TheVariants.{CoderFault};
-ghost use Rattle.session_core.specs.declared.transcript.Reply.TheVariants.{Flushed, Status};
-ghost use Rattle.session_core.specs.Moments.{opening, is_complete, plan_at};
+// The state of a session, and what a send and a flush do to it.
+ghost use Rattle.std.specs.Prelude.{◌≡◌, IfOk, IfErr, OnOk};
+ghost use Rattle.session_core.specs.declared.transcript.Reply.TheVariants.{Flushed};
+ghost use Rattle.session_core.specs.Moments.{opening};
 ghost use Rattle.session_core.specs.Questions.{IsAskedIn};
-ghost use Rattle.session_core.specs.States.{waiting_of, moment_of, told_at, CanCode, Fails, FailsCoding, IsReady, KeepsKeys};
-ghost use Rattle.session_core.specs.Told.{AreGiven, Counts, Grew, OnlyGrew};
-ghost use Rattle.session_core.specs.Turns.{Decides, IsNextPacket, IsReceived, IsTurn, accepted_of, after_flush, after_receive, after_send, after_turn, frame_limit, has_enough, held_back, is_showing, needs_more_data, noted, sent_reply, shown_coding};
+ghost use Rattle.session_core.specs.States.{moment_of, IsReady, KeepsKeys};
+ghost use Rattle.session_core.specs.Steps.{Fails, IsStep, WhereRefused};
+ghost use Rattle.session_core.specs.Told.{heard, IsDetectorLater, IsLater};
+ghost use Rattle.session_core.specs.Turns.{Decides, accepted_of, after_flush, after_send, has_enough, sent_reply};
 
+use crate::waiting::WaitingFrame;
 use crate::{
-    Call, CodeJob, CoderError, Decision, Detector, FrameCoder, FrameParameters, FrameTypeOverride,
-    LogEntry, LogList, Packet, Reply, SessionError, Turn,
+    Call, Decision, Detector, FrameCoder, FrameParameters, LogList, Reply, SessionFault, Turn,
 };
 use av1_frame::Frame;
-use av1_settings::{EncoderConfig, EncoderStatus, FrameType};
-use coding_base::{Bytes, OutOfMemory};
-use pyramid::{Command, InterConfig, plan};
+use av1_settings::{EncoderConfig, EncoderStatus};
+use coding_base::OutOfMemory;
+use pyramid::InterConfig;
 use std::alloc::Global;
 use std::collections::VecDeque;
 use std::sync::Arc;
@@ -26,21 +23,7 @@ use std::sync::Arc;
 /// The most frames that a session accepts.
 const FRAME_LIMIT: u64 = 2147483646;
 
-/// The bytes that begin a packet: a temporal delimiter without a payload.
-const DELIMITER: [u8; 2] = [0x12, 0x00];
-
-/// An accepted frame, until its packet is given.
-#[derive(Drop)]
-pub(crate) struct WaitingFrame<T, O> {
-    pub(crate) picture: Arc<Frame<T>>,
-    pub(crate) forced: bool,
-    /// The value sent with it, until its packet takes it.
-    pub(crate) opaque: Option<O>,
-    /// Its type, once it is coded.
-    pub(crate) kind: Option<FrameType>,
-}
-
-/// All of a session but its coder.
+/// All of a session but its detector and its coder, which its calls borrow.
 #[derive(Drop)]
 pub(crate) struct SessionState<T, O> {
     /// How many frames were accepted.
@@ -88,35 +71,23 @@ impl<T: Drop, O: Drop> SessionState<T, O> {
         detector: &mut D,
         coder: &mut C,
         call: Call<T, O>,
-    ) -> Result<Turn<T, O>, SessionError>
+    ) -> Result<Turn<T, O>, SessionFault>
         requires ready { IsReady enc.now (moment_of self.old) }
         requires keys { KeepsKeys self.old }
-        ensures turn { IfOk result (λ turn.
-            IsTurn enc.now self.new.decisions.items (moment_of self.old) call turn) }
-        ensures after { IfOk result (λ turn.
-            moment_of self.new
-            ≡ after_turn enc.now self.new.decisions.items (moment_of self.old) call turn) }
+        ensures step { IfOk result (λ turn.
+            IsStep enc.now call turn (moment_of self.old) (moment_of self.new)
+            (heard (C.told coder.old) (D.told detector.old))
+            (heard (C.told coder.new) (D.told detector.new))) }
+        ensures refused { IfOk result (λ turn.
+            WhereRefused turn.reply ((self.new ≡ self.old)
+            × (detector.new ≡ detector.old) × (coder.new ≡ coder.old))) }
         ensures keys { OnOk result (KeepsKeys self.new) }
-        ensures told { IfOk result (λ turn.
-            Grew (C.told coder.old) (C.told coder.new)
-            (flat_map (told_at (moment_of self.old)) turn.log)) }
-        ensures failed { IfErr result (λ error.
-            Fails enc.now (moment_of self.old) (C.gives coder.old) (C.fails_after coder.old)
-            (C.told coder.old) (C.told coder.new) (C.faults coder.old) (C.faults coder.new)
-            error) }
-        ensures given { IfOk result (λ turn. AreGiven (C.gives coder.old) turn.log) }
-        ensures counted { IfOk result (λ turn.
-            Counts (C.fails_after coder.old) (C.fails_after coder.new) (length turn.log)) }
-        ensures same_gives { C.gives coder.new ≡ C.gives coder.old }
-        ensures receives { IfErr result
-            (λ error. (error ≡ SessionError.OutOfMemory → ⊥) → call ≡ Receive) }
-        ensures asked { OnOk result (IsAskedIn enc.now (moment_of self.old)
-            (moment_of self.new) (D.told detector.old) (D.told detector.new)
-            (D.answers detector.old)) }
-        ensures grew { OnlyGrew (D.told detector.old) (D.told detector.new) }
-        ensures same_answers { D.answers detector.new ≡ D.answers detector.old }
-        ensures silent { call ≡ Receive → detector.new ≡ detector.old }
-        ensures later { C.faults coder.old ≤ C.faults coder.new }
+        ensures failed { IfErr result (λ fault.
+            Fails enc.now call (moment_of self.old)
+            (heard (C.told coder.old) (D.told detector.old))
+            (heard (C.told coder.new) (D.told detector.new)) fault) }
+        ensures later { IsLater (heard (C.told coder.old) (D.told detector.old))
+            (heard (C.told coder.new) (D.told detector.new)) }
     {
         let reply = match call {
             Call::Send(frame, parameters) => self.send(alloc, enc, detector, frame, parameters)?,
@@ -149,10 +120,11 @@ impl<T: Drop, O: Drop> SessionState<T, O> {
         ensures decides { OnOk result (Decides enc.now (moment_of self.old) (moment_of self.new)) }
         ensures keys { OnOk result (KeepsKeys self.new) }
         ensures asked { OnOk result (IsAskedIn enc.now (moment_of self.old)
-            (moment_of self.new) (D.told detector.old) (D.told detector.new)
-            (D.answers detector.old)) }
-        ensures grew { OnlyGrew (D.told detector.old) (D.told detector.new) }
-        ensures same_answers { D.answers detector.new ≡ D.answers detector.old }
+            (moment_of self.new) (D.told detector.old).questions
+            (D.told detector.new).questions (D.told detector.old).answers) }
+        ensures refused { IfOk result (λ reply.
+            WhereRefused reply ((self.new ≡ self.old) × (detector.new ≡ detector.old))) }
+        ensures later { IsDetectorLater (D.told detector.old) (D.told detector.new) }
     {
         if self.has_enough(enc) {
             return Ok(Reply::Status(EncoderStatus::EnoughData));
@@ -161,7 +133,8 @@ impl<T: Drop, O: Drop> SessionState<T, O> {
             return Ok(Reply::Status(EncoderStatus::FrameSizeMismatch));
         }
         let number = self.accepted;
-        self.waiting.push_back(waiting_frame(frame, parameters))?;
+        self.waiting
+            .push_back(WaitingFrame::new(alloc, frame, parameters)?)?;
         if number == 0 {
             self.keys.push(0)?;
         }
@@ -201,10 +174,9 @@ impl<T: Drop, O: Drop> SessionState<T, O> {
         ensures decides { OnOk result (Decides enc.now (moment_of self.old) (moment_of self.new)) }
         ensures keys { OnOk result (KeepsKeys self.new) }
         ensures asked { OnOk result (IsAskedIn enc.now (moment_of self.old)
-            (moment_of self.new) (D.told detector.old) (D.told detector.new)
-            (D.answers detector.old)) }
-        ensures grew { OnlyGrew (D.told detector.old) (D.told detector.new) }
-        ensures same_answers { D.answers detector.new ≡ D.answers detector.old }
+            (moment_of self.new) (D.told detector.old).questions
+            (D.told detector.new).questions (D.told detector.old).answers) }
+        ensures later { IsDetectorLater (D.told detector.old) (D.told detector.new) }
     {
         self.flushed = true;
         let last = self.accepted.saturating_sub(1);
@@ -215,292 +187,5 @@ impl<T: Drop, O: Drop> SessionState<T, O> {
             last,
         )?;
         Ok(Reply::Flushed)
-    }
-
-    // Has the coder carry out the plan's next command, if it is known, and answers it.
-    fn receive<C: FrameCoder<T>>(
-        &mut self,
-        alloc: Global,
-        enc: &EncoderConfig,
-        coder: &mut C,
-    ) -> Result<Turn<T, O>, SessionError>
-        requires ready { IsReady enc.now (moment_of self.old) }
-        requires keys { KeepsKeys self.old }
-        ensures turn { IfOk result (λ turn.
-            IsTurn enc.now self.new.decisions.items (moment_of self.old) Receive turn) }
-        ensures after { IfOk result (λ turn.
-            moment_of self.new ≡ after_receive (moment_of self.old) turn.log turn.reply) }
-        ensures same { OnOk result (self.new.decisions.items ≡ self.old.decisions.items) }
-        ensures keys { OnOk result (KeepsKeys self.new) }
-        ensures told { IfOk result (λ turn.
-            Grew (C.told coder.old) (C.told coder.new)
-            (flat_map (told_at (moment_of self.old)) turn.log)) }
-        ensures failed { IfErr result (λ error.
-            Fails enc.now (moment_of self.old) (C.gives coder.old) (C.fails_after coder.old)
-            (C.told coder.old) (C.told coder.new) (C.faults coder.old) (C.faults coder.new)
-            error) }
-        ensures given { IfOk result (λ turn. AreGiven (C.gives coder.old) turn.log) }
-        ensures counted { IfOk result (λ turn.
-            Counts (C.fails_after coder.old) (C.fails_after coder.new) (length turn.log)) }
-        ensures same_gives { C.gives coder.new ≡ C.gives coder.old }
-        ensures later { C.faults coder.old ≤ C.faults coder.new }
-    {
-        if let Some(reason) = self.held_back(enc) {
-            return Ok(status(alloc, reason));
-        }
-        let command = self.next_command(alloc, enc)?;
-        let entry = match self.code(alloc, coder, command) {
-            Ok(entry) => entry,
-            Err(error) => return Err(error),
-        };
-        let reply = self.answer(alloc, &entry)?;
-        let mut log = LogList::new(alloc);
-        log.push(entry)?;
-        Ok(Turn { reply, log })
-    }
-
-    // Why a receive codes nothing.
-    fn held_back(&self, enc: &EncoderConfig) -> Option<EncoderStatus>
-        requires few { self.now.accepted ≤ frame_limit }
-        requires keys { KeepsKeys self.now }
-        ensures { result ≡ held_back enc.now (moment_of self.now) }
-    {
-        if self.flushed && self.is_complete() {
-            return Some(EncoderStatus::LimitReached);
-        }
-        if self.needs_more_data(enc) {
-            return Some(EncoderStatus::NeedMoreData);
-        }
-        None
-    }
-
-    // Whether every accepted frame's packet was given.
-    fn is_complete(&self) -> bool
-        ensures { result ≡ is_complete (moment_of self.now) }
-    {
-        self.packets == self.accepted
-    }
-
-    // Whether the lookahead wants more frames than are known.
-    fn needs_more_data(&self, enc: &EncoderConfig) -> bool
-        requires few { self.now.accepted ≤ frame_limit }
-        requires keys { KeepsKeys self.now }
-        ensures { result ≡ needs_more_data enc.now (moment_of self.now) }
-    {
-        if self.flushed {
-            return false;
-        }
-        let known = InterConfig::new(enc).coded_ahead(
-            enc.key_frame_interval(),
-            self.accepted,
-            &self.keys,
-            self.commands,
-        );
-        known <= enc.speed_settings.rdo_lookahead_frames as u64
-    }
-
-    // The next command of the plan, by what was accepted and decided so far.
-    fn next_command(&self, alloc: Global, enc: &EncoderConfig) -> Result<Command, OutOfMemory>
-        requires few { self.now.accepted ≤ frame_limit }
-        requires keys { KeepsKeys self.now }
-        requires there { self.now.commands < length (plan_at enc.now (moment_of self.now)) }
-        ensures fits { OnOk result (self.now.commands < u64.MAX) }
-        ensures command { IfOk result (λ command.
-            slice_get (plan_at enc.now (moment_of self.now)) self.now.commands ≡ Some command) }
-    {
-        let commands = plan(
-            alloc,
-            &InterConfig::new(enc),
-            enc.key_frame_interval(),
-            self.accepted,
-            &self.keys,
-        )?;
-        Ok(commands[self.commands as usize])
-    }
-
-    // Has the coder carry out a command.
-    fn code<C: FrameCoder<T>>(
-        &self,
-        alloc: Global,
-        coder: &mut C,
-        command: Command,
-    ) -> Result<LogEntry, SessionError>
-        requires waits { self.now.packets + length self.now.waiting.items ≡ self.now.accepted }
-        requires next { CanCode (moment_of self.now) command }
-        ensures command { IfOk result (λ entry. entry.command ≡ command) }
-        ensures real { IfOk result (λ entry. entry.trial ≡ false) }
-        ensures told { IfOk result (λ entry.
-            Grew (C.told coder.old) (C.told coder.new) (told_at (moment_of self.now) entry)) }
-        ensures failed { IfErr result (λ error.
-            FailsCoding self.now.commands (C.fails_after coder.old) (C.told coder.old)
-            (C.told coder.new) (C.faults coder.old) (C.faults coder.new) error) }
-        ensures given { IfOk result (λ entry. AreGiven (C.gives coder.old) (entry ∷ [])) }
-        ensures counted { OnOk result
-            (Counts (C.fails_after coder.old) (C.fails_after coder.new) 1) }
-        ensures same_gives { C.gives coder.new ≡ C.gives coder.old }
-        ensures later { C.faults coder.old ≤ C.faults coder.new }
-    {
-        let bytes = match command {
-            Command::Code { frame, .. } => {
-                let waiting = &self.waiting[(frame - self.packets) as usize];
-                let job = CodeJob {
-                    command,
-                    trial: false,
-                    picture: Arc::try_clone(&waiting.picture)?,
-                };
-                match coder.code(alloc, &job) {
-                    Ok(coded) => coded.bytes,
-                    Err(error) => return Err(self.failed(error)),
-                }
-            }
-            Command::Show { slot } => match coder.show(alloc, slot, self.packets) {
-                Ok(shown) => Bytes::from_slice(alloc, &shown.bytes)?,
-                Err(error) => return Err(self.failed(error)),
-            },
-        };
-        Ok(LogEntry {
-            command,
-            trial: false,
-            bytes,
-        })
-    }
-
-    // The session's error for one of the coder's.
-    fn failed(&self, error: CoderError) -> SessionError
-        ensures failed { error ≡ CoderError.Failed → result ≡ CoderFault self.now.commands }
-        ensures memory { error ≡ CoderError.OutOfMemory → result ≡ SessionError.OutOfMemory }
-    {
-        match error {
-            CoderError::Failed => SessionError::CoderFault {
-                command: self.commands,
-            },
-            CoderError::OutOfMemory => SessionError::OutOfMemory,
-        }
-    }
-
-    // Keeps the bytes and the type of a hidden frame, or gives the packet of a shown one.
-    fn answer(&mut self, alloc: Global, entry: &LogEntry) -> Result<Reply<T, O>, OutOfMemory>
-        requires fits { self.old.commands < u64.MAX }
-        requires few { self.old.accepted ≤ frame_limit }
-        requires waits { self.old.packets + length self.old.waiting.items ≡ self.old.accepted }
-        requires next { CanCode (moment_of self.old) entry.now.command }
-        requires real { entry.now.trial ≡ false }
-        ensures reply { IfOk result (λ reply. IsReceived (moment_of self.old) entry.now reply) }
-        ensures after { IfOk result (λ reply.
-            moment_of self.new ≡ after_receive (moment_of self.old) (entry.now ∷ []) reply) }
-        ensures keys { self.new.keys.items ≡ self.old.keys.items }
-    {
-        if is_showing(&entry.command) {
-            let packet = self.packet(alloc, entry)?;
-            self.pending.clear();
-            self.commands += 1;
-            self.packets += 1;
-            return Ok(Reply::Packet(packet));
-        }
-        self.pending.extend_from_slice(entry.bytes.as_slice())?;
-        self.note_kind(entry);
-        self.commands += 1;
-        Ok(Reply::Status(EncoderStatus::Encoded))
-    }
-
-    // Keeps the type of a coded frame until its packet is given.
-    fn note_kind(&mut self, entry: &LogEntry)
-        requires waits { self.old.packets + length self.old.waiting.items ≡ self.old.accepted }
-        requires next { CanCode (moment_of self.old) entry.now.command }
-        ensures after { moment_of self.new
-            ≡ record (moment_of self.old)
-            { waiting = noted self.old.packets (moment_of self.old).waiting entry.now } }
-        ensures keys { self.new.keys.items ≡ self.old.keys.items }
-    {
-        if let Command::Code { frame, kind, .. } = entry.command {
-            self.waiting[(frame - self.packets) as usize].kind = Some(kind);
-        }
-    }
-
-    // The packet of the first frame that waits, which the command of this entry shows.
-    fn packet(&mut self, alloc: Global, entry: &LogEntry) -> Result<Packet<T, O>, OutOfMemory>
-        requires waits { self.old.packets + length self.old.waiting.items ≡ self.old.accepted }
-        requires next { CanCode (moment_of self.old) entry.now.command }
-        ensures packet { IfOk result
-            (λ packet. IsNextPacket (moment_of self.old) entry.now packet) }
-        ensures after { OnOk result (
-            moment_of self.new
-            ≡ record (moment_of self.old) { waiting = drop 1 (moment_of self.old).waiting }) }
-        ensures keys { self.new.keys.items ≡ self.old.keys.items }
-    {
-        let mut bytes = Vec::from_slice(alloc, &DELIMITER)?;
-        bytes.extend_from_slice(&self.pending)?;
-        bytes.extend_from_slice(entry.bytes.as_slice())?;
-        let Some(first) = self.waiting.pop_front() else {
-            unreachable!()
-        };
-        Ok(Packet {
-            bytes: Bytes::from_vec(bytes),
-            frame_type: shown_kind(entry, &first),
-            source: Some(first.picture),
-            input_frameno: self.packets,
-            opaque: first.opaque,
-        })
-    }
-}
-
-// A turn that codes nothing.
-fn status<T, O>(alloc: Global, status: EncoderStatus) -> Turn<T, O>
-    ensures reply { result.reply ≡ Status status }
-    ensures log { result.log ≡ [] }
-{
-    Turn {
-        reply: Reply::Status(status),
-        log: LogList::new(alloc),
-    }
-}
-
-// A frame as its parameters ask for it.
-fn waiting_frame<T, O>(
-    picture: Arc<Frame<T>>,
-    parameters: Option<FrameParameters<O>>,
-) -> WaitingFrame<T, O>
-    ensures { waiting_of result
-        ≡ record { frame = accepted_of picture.value parameters; coded = None } }
-{
-    let (forced, opaque) = match parameters {
-        None => (false, None),
-        Some(
-            FrameParameters {
-                frame_type_override,
-                opaque,
-            },
-        ) => (
-            matches!(frame_type_override, FrameTypeOverride::Key),
-            opaque,
-        ),
-    };
-    WaitingFrame {
-        picture,
-        forced,
-        opaque,
-        kind: None,
-    }
-}
-
-// Whether a command shows a frame.
-fn is_showing(command: &Command) -> bool
-    ensures { result ≡ is_showing command.now }
-{
-    match command {
-        Command::Code { shown, .. } => *shown,
-        Command::Show { .. } => true,
-    }
-}
-
-// The type of the frame that waits, which an entry shows.
-fn shown_kind<T, O>(entry: &LogEntry, waiting: &WaitingFrame<T, O>) -> FrameType
-    ensures { IsSome (shown_coding entry.now (waiting_of waiting.now))
-        → Some result
-        ≡ option_map (λ coding. coding.kind) (shown_coding entry.now (waiting_of waiting.now)) }
-{
-    match entry.command {
-        Command::Code { kind, .. } => kind,
-        Command::Show { .. } => waiting.kind.unwrap_or(FrameType::KEY),
     }
 }

@@ -6,8 +6,8 @@ ghost use Rattle.session_core.specs.declared.coder.CoderError.TheVariants.{Faile
 use super::*;
 use av1_frame::{ChromaSampling, Frame};
 use av1_settings::{
-    Config, EncoderConfig, EncoderStatus, FrameType, InvalidConfig, LevelRow, LevelTables,
-    SceneDetectionSpeed,
+    Config, EncoderConfig, EncoderStats, EncoderStatus, FrameType, InvalidConfig, LevelRow,
+    LevelTables, SceneDetectionSpeed,
 };
 use coding_base::{Bytes, OutOfMemory};
 use pyramid::Command;
@@ -52,15 +52,14 @@ impl SizedCoder {
 }
 
 impl FrameCoder<u16> for SizedCoder {
-    ghost told = { λ _. None };
+    ghost told = { λ coder. record {
+      calls = None;
+      gives = None;
+      fails_after = None;
+      faults = coder.faults;
+    } };
 
-    ghost gives = { λ _. None };
-
-    ghost fails_after = { λ _. None };
-
-    ghost faults = { λ coder. coder.faults };
-
-    fn code(&mut self, alloc: Global, job: &CodeJob<u16>) -> Result<CodedFrame, CoderError> {
+    fn code(&mut self, alloc: Global, job: &CodeJob<u16>) -> Result<CodedFrame<u16>, CoderError> {
         self.counts()?;
         let size = match job.command {
             Command::Code {
@@ -72,13 +71,22 @@ impl FrameCoder<u16> for SizedCoder {
         let bytes = vec![in alloc; 7u8; size]?;
         Ok(CodedFrame {
             bytes: Bytes::from_vec(bytes),
+            rec: None,
+            stats: EncoderStats::default(),
         })
     }
 
-    fn show(&mut self, _alloc: Global, slot: u8, _frame: u64) -> Result<ShownFrame, CoderError> {
+    fn show(
+        &mut self,
+        _alloc: Global,
+        slot: u8,
+        _frame: u64,
+    ) -> Result<ShownFrame<u16>, CoderError> {
         self.counts()?;
         Ok(ShownFrame {
             bytes: [0x1a, 0x01, slot],
+            rec: None,
+            stats: EncoderStats::default(),
         })
     }
 
@@ -107,9 +115,7 @@ impl NotingDetector {
 }
 
 impl Detector<u16> for NotingDetector {
-    ghost told = { λ _. None };
-
-    ghost answers = { λ _. None };
+    ghost told = { λ _. record { questions = None; answers = None } };
 
     fn ask(
         &mut self,
@@ -191,6 +197,7 @@ fn calls_of(
                 Some(FrameParameters {
                     frame_type_override,
                     opaque: Some(number),
+                    t35_metadata: T35List::new(alloc),
                 }),
             ))?;
             number = number.saturating_add(1);

@@ -1,7 +1,7 @@
 -- What the program says of the session that it ran: why a summary or a configuration is refused, and what a transcript is.
 -- These are the session's own words; the outcomes of a run cite them from here alone.
-use Rattle.std.specs.Prelude.{◌≡◌, ◌≢◌, ℕ, Bool, true, IsTrue, ◌||◌, if◌then◌else◌, min, List, [], map, Option, None, Some, is_some, Result, Ok, Err}
-use Rattle.std.specs.List.{list_any, reduce}
+use Rattle.std.specs.Prelude.{◌≡◌, ◌≢◌, ℕ, Bool, true, IsTrue, ◌||◌, if◌then◌else◌, List, [], map, Option, None, Some, is_some, Result, Ok, Err}
+use Rattle.std.specs.List.{list_any}
 use Rattle.std.specs.Option.{option_map}
 use Rattle.av1_settings.specs.declared.invalid.InvalidConfig.{InvalidConfig}
 use Rattle.av1_settings.specs.declared.rate_control.RateControlConfig.{RateControlConfig}
@@ -15,39 +15,26 @@ use Rattle.script_lines.specs.Grammar.{IsRateControl, config_of, summary_refusal
 use Rattle.script_lines.specs.SettingLines.{encoder_of}
 use Rattle.scripted.specs.declared.coder.ScriptedCoder.{ScriptedCoder}
 use Rattle.scripted.specs.declared.detector.ScriptedDetector.{ScriptedDetector}
-use Rattle.scripted.specs.CoderLog.{coder_fails_after, coder_gives, coder_told}
-use Rattle.scripted.specs.DetectorLog.{detector_answers, detector_told, is_cut}
+use Rattle.scripted.specs.CoderLog.{coder_told, told_first}
+use Rattle.scripted.specs.DetectorLog.{asked_first, detector_told}
 use Rattle.scripted.specs.NoLevels.{no_levels}
-use Rattle.scripted.specs.ScriptedBytes.{scripted_bytes}
 use Rattle.session_core.specs.declared.call.Call.{Call}
 use Rattle.session_core.specs.declared.transcript.Transcript.{Transcript}
 use Rattle.session_core.specs.Answers.{FailsAt}
 use Rattle.session_core.specs.Sessions.{IsSessionRun}
-use Rattle.session_core.specs.Told.{Heard}
+use Rattle.session_core.specs.Told.{Heard, heard}
 use Rattle.session_text.specs.declared.report.ReportOptions.{ReportOptions}
 use Rattle.session_script.specs.declared.run.TheConstants.{CORRUPTED}
 use Rattle.session_script.specs.Calls.{asked_by, asked_for}
 
 -- what the coder and the detector of a run tell
 abbrev pub heard_of : ScriptedCoder → ScriptedDetector → Heard ℕ
-heard_of coder detector = record {
-  coder = coder_told coder;
-  gives = coder_gives coder;
-  fails_after = coder_fails_after coder;
-  detector = detector_told detector;
-  answers = detector_answers detector;
-}
+heard_of coder detector = heard (coder_told coder) (detector_told detector)
 
 -- what they tell before the session of a script: no call yet; the coder gives the bytes that the script sets, and its first
 -- call that fails is that of the least fault number; the detector answers yes at exactly the cuts
 abbrev pub heard_first : Script → Heard ℕ
-heard_first script = record {
-  coder = Some [];
-  gives = Some (scripted_bytes script.byte_counts);
-  fails_after = Some (reduce min script.faults);
-  detector = Some [];
-  answers = Some (is_cut script.cuts);
-}
+heard_first script = heard (told_first script.byte_counts script.faults) (asked_first script.cuts)
 
 -- what a script has its report print besides
 abbrev pub asks_bytes : Print → Bool

@@ -1,11 +1,12 @@
 use Rattle.std.proofs.Common.{rules, ◌≡◌, ◌++◌, ◌∷◌, [], Result, Err, inr, ap, sym, subst, ◌∙◌, append_assoc, append-nil, arith}
 use Rattle.std.proofs.lemmas.Int.{ints}
 use Rattle.std.proofs.lemmas.List.{nil_from_length}
+use Rattle.session_core.specs.Answers.{error_of}
 use Rattle.session_core.specs.Sessions.{IsSessionRun}
-use Rattle.session_core.proofs.CallLoop.{Carried, Stops, carried-opening, carried-step, carried-ready, carried-grew, carried-asked, carried-session, session-schedule, carried-stop}
-use Rattle.session_core.proofs.Telling.{only-then}
+use Rattle.session_core.proofs.CallLoop.{Carried, Stops, carried-opening, carried-step, leads-ready, carried-session, session-schedule, carried-stop}
+use Rattle.session_core.proofs.Telling.{later-then}
 use Rattle.session_core.proofs.session.run_session.Given as given
-use Rattle.session_core.proofs.session.run_session.Invariants.{heard}
+use Rattle.session_core.proofs.session.run_session.Invariants.{outside}
 use Rattle.session_core.proofs.session.run_session.Goals as goal
 
 pub returns-then-cfg-gt0-clause-complete : goal.returns-then-cfg-gt0-clause-complete
@@ -15,26 +16,23 @@ pub loop-call-init : goal.loop-call-init
 loop-call-init g c = (
   tt,
   tt,
-  carried-opening c.args.cfg.now.enc c.new-turns.result.items c.new-state.result (heard g c.args.coder.now c.args.detector.now) c.new-turns.ensures.items c.new-state.ensures.moment c.new-state.ensures.keys,
-  omega arith,
+  carried-opening c.args.cfg.now.enc c.new-turns.result.items c.new-state.result (outside g c.args.coder.now c.args.detector.now) c.new-turns.ensures.items c.new-state.ensures.moment c.new-state.ensures.keys,
   c.into_iter-call-iterator.ensures.into_iter_gives.0,
 )
 
 pub turn-requires-clause-ready : goal.turn-requires-clause-ready
-turn-requires-clause-ready g c = carried-ready _ _ _ _ _ _ c.in_default.ensures.valid.looks_ahead c.loop-call.invariant.2
+turn-requires-clause-ready g c = leads-ready _ _ _ _ c.in_default.ensures.valid.looks_ahead c.loop-call.invariant.2.leads
 
 pub loop-call-preserved : goal.loop-call-preserved
 loop-call-preserved g c =
     let left : c.loop-call.yielded ++ c.in-Some.call ∷ [] ++ c.next.new.self.rest.items ≡ c.args.calls.items =
     append_assoc c.loop-call.yielded (c.in-Some.call ∷ []) c.next.new.self.rest.items
-    ∙ ap (λ rest. c.loop-call.yielded ++ rest) (sym c.in-Some.ensures.steps.0) ∙ c.loop-call.invariant.4 in (
+    ∙ ap (λ rest. c.loop-call.yielded ++ rest) (sym c.in-Some.ensures.steps.0) ∙ c.loop-call.invariant.3 in (
       tt,
       tt,
-      carried-step c.args.cfg.now.enc c.loop-call.yielded c.loop-call.turns.items c.push.new.self.items c.loop-call.state c.turn.new.self _ _ (heard g c.turn.new.coder c.turn.new.detector) c.in-Some.call c.in-Ok.turn
-          c.in_default.ensures.valid.looks_ahead c.loop-call.invariant.2 c.in-Ok.ensures.turn c.in-Ok.ensures.after c.in-Ok.ensures.keys c.in-Ok.ensures.told
-          c.in-Ok.ensures.asked c.in-Ok.ensures.same_answers c.in-Ok.ensures.given c.in-Ok.ensures.counted c.in-Ok.ensures.same_gives
+      carried-step c.args.cfg.now.enc c.loop-call.yielded c.loop-call.turns.items c.push.new.self.items c.loop-call.state c.turn.new.self _ _ (outside g c.turn.new.coder c.turn.new.detector) c.in-Some.call c.in-Ok.turn
+          c.in_default.ensures.valid.looks_ahead c.loop-call.invariant.2 c.in-Ok.ensures.step c.in-Ok.ensures.keys c.in-Ok.ensures.later
           c.in_ok-push-in-Ok.ensures.items,
-      omega (arith, c.loop-call.invariant.3, c.in-Ok.ensures.later),
       left,
     )
 
@@ -42,31 +40,30 @@ loop-call-preserved g c =
 pub returns-in_err-push-in-Ok-clause-bitrate : goal.returns-in_err-push-in-Ok-clause-bitrate
 returns-in_err-push-in-Ok-clause-bitrate g c = λ valid asks. absurd (omega (arith, ints, c.if-cfg-gt0.false))
 
-pub returns-in_err-push-in-Ok-clause-kept : goal.returns-in_err-push-in-Ok-clause-kept
-returns-in_err-push-in-Ok-clause-kept g c = only-then _ _ _ (carried-grew _ _ _ _ _ _ c.loop-call.invariant.2) (_, c.in-Ok.ensures.told)
-
-pub returns-in_err-push-in-Ok-clause-kept_questions : goal.returns-in_err-push-in-Ok-clause-kept_questions
-returns-in_err-push-in-Ok-clause-kept_questions g c = only-then _ _ _ (carried-asked _ _ _ _ _ _ c.loop-call.invariant.2) c.in-Ok.ensures.grew
-
-pub returns-in_err-push-in-Ok-clause-same_gives : goal.returns-in_err-push-in-Ok-clause-same_gives
-returns-in_err-push-in-Ok-clause-same_gives g c = c.in-Ok.ensures.same_gives ∙ c.loop-call.invariant.2.same_gives
-
-pub returns-in_err-push-in-Ok-clause-same_answers : goal.returns-in_err-push-in-Ok-clause-same_answers
-returns-in_err-push-in-Ok-clause-same_answers g c = c.in-Ok.ensures.same_answers ∙ c.loop-call.invariant.2.answers
+pub returns-in_err-push-in-Ok-clause-later : goal.returns-in_err-push-in-Ok-clause-later
+returns-in_err-push-in-Ok-clause-later g c = later-then _ _ _ c.loop-call.invariant.2.later c.in-Ok.ensures.later
 
 -- what an error says of the calls
 stop : (g : given.Over) (c : goal.After-drop-state-in-Err-turn-4 g) →
-    Stops c.args.cfg.now.enc c.args.calls.items (heard g c.args.coder.now c.args.detector.now) (heard g c.turn.new.coder c.turn.new.detector)
-    (g.C.FrameCoder.faults c.args.coder.now) (g.C.FrameCoder.faults c.turn.new.coder) c.in-Err-turn.error
+    Stops c.args.cfg.now.enc c.args.calls.items (outside g c.args.coder.now c.args.detector.now) (outside g c.turn.new.coder c.turn.new.detector) c.from.result
 stop g c =
     let at : c.loop-call.yielded ++ c.in-Some.call ∷ c.next.new.self.rest.items ≡ c.args.calls.items =
-    ap (λ rest. c.loop-call.yielded ++ rest) (sym c.in-Some.ensures.steps.0) ∙ c.loop-call.invariant.4 in
-    carried-stop c.args.cfg.now.enc c.loop-call.yielded c.next.new.self.rest.items c.args.calls.items c.loop-call.turns.items c.loop-call.state
-    _ _ _ _ _ _ c.in-Some.call c.in-Err-turn.error c.loop-call.invariant.2 at c.in-Err-turn.ensures.receives
-    (λ receive. ap g.D.Detector.told (c.in-Err-turn.ensures.silent receive)) c.loop-call.invariant.3 c.in-Err-turn.ensures.failed
+    ap (λ rest. c.loop-call.yielded ++ rest) (sym c.in-Some.ensures.steps.0) ∙ c.loop-call.invariant.3 in
+    subst (Stops c.args.cfg.now.enc c.args.calls.items (outside g c.args.coder.now c.args.detector.now) (outside g c.turn.new.coder c.turn.new.detector)) (sym c.from.ensures)
+    (carried-stop c.args.cfg.now.enc c.loop-call.yielded c.next.new.self.rest.items c.args.calls.items c.loop-call.turns.items c.loop-call.state
+    _ _ _ c.in-Some.call c.in-Err-turn.fault c.loop-call.invariant.2 at c.in-Err-turn.ensures.failed)
 
 same : {A E : Type 0} (a b : E) → ◌≡◌ {A = Result A E} (Err a) (Err b) → a ≡ b
 same a b e = cc
+
+pub returns-in-Err-turn-clause-invalid : goal.returns-in-Err-turn-clause-invalid
+returns-in-Err-turn-clause-invalid g c = λ v is. absurd ((stop g c).valid v (same _ _ is))
+
+pub returns-in-Err-turn-clause-unbuilt : goal.returns-in-Err-turn-clause-unbuilt
+returns-in-Err-turn-clause-unbuilt g c = λ is. absurd ((stop g c).built (same _ _ is))
+
+pub returns-in-Err-turn-clause-unstarted : goal.returns-in-Err-turn-clause-unstarted
+returns-in-Err-turn-clause-unstarted g c = λ is. absurd ((stop g c).built (same _ _ is))
 
 pub returns-in-Err-turn-clause-bitrate : goal.returns-in-Err-turn-clause-bitrate
 returns-in-Err-turn-clause-bitrate g c = λ valid asks. absurd (omega (arith, ints, c.if-cfg-gt0.false))
@@ -74,39 +71,27 @@ returns-in-Err-turn-clause-bitrate g c = λ valid asks. absurd (omega (arith, in
 pub returns-in-Err-turn-clause-fault : goal.returns-in-Err-turn-clause-fault
 returns-in-Err-turn-clause-fault g c = λ command is. (stop g c).fault command (same _ _ is)
 
-pub returns-in-Err-turn-clause-fault_cause : goal.returns-in-Err-turn-clause-fault_cause
-returns-in-Err-turn-clause-fault_cause g c = λ command is. (stop g c).cause command (same _ _ is)
-
 pub returns-in-Err-turn-clause-complete : goal.returns-in-Err-turn-clause-complete
 returns-in-Err-turn-clause-complete g c = λ valid none still. inr (ap Err ((stop g c).complete still))
 
-pub returns-in-Err-turn-clause-kept : goal.returns-in-Err-turn-clause-kept
-returns-in-Err-turn-clause-kept g c = (stop g c).kept
-
-pub returns-in-Err-turn-clause-kept_questions : goal.returns-in-Err-turn-clause-kept_questions
-returns-in-Err-turn-clause-kept_questions g c = only-then _ _ _ (carried-asked _ _ _ _ _ _ c.loop-call.invariant.2) c.in-Err-turn.ensures.grew
-
-pub returns-in-Err-turn-clause-same_gives : goal.returns-in-Err-turn-clause-same_gives
-returns-in-Err-turn-clause-same_gives g c = c.in-Err-turn.ensures.same_gives ∙ c.loop-call.invariant.2.same_gives
-
-pub returns-in-Err-turn-clause-same_answers : goal.returns-in-Err-turn-clause-same_answers
-returns-in-Err-turn-clause-same_answers g c = c.in-Err-turn.ensures.same_answers ∙ c.loop-call.invariant.2.answers
+pub returns-in-Err-turn-clause-later : goal.returns-in-Err-turn-clause-later
+returns-in-Err-turn-clause-later g c = later-then _ _ _ c.loop-call.invariant.2.later c.in-Err-turn.ensures.later
 
 -- every call was answered
 all_done : (g : given.Over) (c : goal.After-drop-state-4 g) → c.loop-call.yielded ≡ c.args.calls.items
 all_done g c =
     let none : c.loop-call.call-iterator.rest.items ≡ [] = nil_from_length _ (omega (arith, c.in-None.ensures.steps.0)) in
-    sym (append-nil c.loop-call.yielded) ∙ ap (λ rest. c.loop-call.yielded ++ rest) (sym none) ∙ c.loop-call.invariant.4
+    sym (append-nil c.loop-call.yielded) ∙ ap (λ rest. c.loop-call.yielded ++ rest) (sym none) ∙ c.loop-call.invariant.3
 
 run : (g : given.Over) (c : goal.After-drop-state-4 g) →
     IsSessionRun c.args.cfg.now.enc c.args.calls.items (record { turns = c.from_vec.result; decisions = c.from_vec-2.result })
-    (heard g c.args.coder.now c.args.detector.now) (heard g c.loop-call.coder c.loop-call.detector)
+    (outside g c.args.coder.now c.args.detector.now) (outside g c.loop-call.coder c.loop-call.detector)
 run g c =
     let enc = c.args.cfg.now.enc in
     let calls = c.args.calls.items in
     let state = c.loop-call.state in
-    let before = heard g c.args.coder.now c.args.detector.now in
-    let now = heard g c.loop-call.coder c.loop-call.detector in
+    let before = outside g c.args.coder.now c.args.detector.now in
+    let now = outside g c.loop-call.coder c.loop-call.detector in
     let all = subst (λ done. Carried enc done c.loop-call.turns.items state before now) (all_done g c) c.loop-call.invariant.2 in
     let listed = subst (λ turns. Carried enc calls turns state before now) (sym c.from_vec.ensures) all in
     carried-session enc calls (record { turns = c.from_vec.result; decisions = c.from_vec-2.result }) state before now listed c.from_vec-2.ensures
@@ -120,14 +105,5 @@ returns-clause-schedules g c = session-schedule c.args.cfg.now.enc c.args.calls.
 pub returns-clause-bitrate : goal.returns-clause-bitrate
 returns-clause-bitrate g c = λ valid asks. absurd (omega (arith, ints, c.if-cfg-gt0.false))
 
-pub returns-clause-kept : goal.returns-clause-kept
-returns-clause-kept g c = carried-grew _ _ _ _ _ _ c.loop-call.invariant.2
-
-pub returns-clause-kept_questions : goal.returns-clause-kept_questions
-returns-clause-kept_questions g c = carried-asked _ _ _ _ _ _ c.loop-call.invariant.2
-
-pub returns-clause-same_answers : goal.returns-clause-same_answers
-returns-clause-same_answers g c = c.loop-call.invariant.2.answers
-
-pub returns-clause-same_gives : goal.returns-clause-same_gives
-returns-clause-same_gives g c = c.loop-call.invariant.2.same_gives
+pub returns-clause-later : goal.returns-clause-later
+returns-clause-later g c = c.loop-call.invariant.2.later

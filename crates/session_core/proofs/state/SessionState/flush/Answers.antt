@@ -6,7 +6,7 @@ use Rattle.session_core.proofs.state.SessionState.flush.Goals as goal
 
 made : (g : given.Over) (c : goal.In_ok-decide g) →
     Made c.args.enc.now (moment_of c.args.self.now) (record (moment_of c.args.self.now) { flushed = true }) (moment_of c.decide.new.self)
-    (g.D.Detector.told c.args.detector.now) (g.D.Detector.told c.decide.new.detector) (g.D.Detector.answers c.args.detector.now)
+    (g.D.Detector.told c.args.detector.now).questions (g.D.Detector.told c.decide.new.detector).questions (g.D.Detector.told c.args.detector.now).answers
 made g c = made-of c.args.enc.now _ _ (record c.args.self.now { flushed = true }) _ _ _ _ _ refl refl c.saturating_sub-last.ensures c.in_ok-decide.ensures.decided
 
 pub returns-clause-after : goal.returns-clause-after

@@ -10,4 +10,4 @@ returns-clause-asked g c =
     c.if-forced.false
     (ap (map (λ frame. frame.value)) c.deref.ensures.value ∙ c.in_ok-frames.ensures)
     (c.last_key.ensures ∙ ap (last_key self.decisions.items) (sym c.requires.next))
-    c.ask.ensures.told
+    c.ask.ensures.questions

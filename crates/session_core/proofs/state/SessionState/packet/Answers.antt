@@ -21,5 +21,5 @@ returns-clause-packet g c =
       is_first = is_first;
       source = refl;
       opaque = refl;
-      frame_type = c.shown_kind.ensures (shown-is-coded (moment_of self) (waiting_of first) c.args.entry.now is_first c.requires.next);
+      frame_type = c.shown_kind.ensures (shown-is-coded (moment_of self) (waiting_of first) c.args.coded.now.entry is_first c.requires.next);
     }

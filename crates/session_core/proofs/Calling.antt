@@ -1,0 +1,214 @@
+-- Calls of a context: what one keeps, and what it answers.
+use Rattle.std.proofs.Common.{◌≡◌, ◌≢◌, ℕ, ◌≤◌, ◌⊎◌, inl, inr, List, [], ◌∷◌, ◌++◌, Bool, true, false, MatchOption, MatchBool, IfOk, IfErr, Option, Some, None, is_some, Result, Ok, Err, refl, sym, ap, subst}
+use Rattle.av1_frame.specs.declared.frame.Frame.{Frame}
+use Rattle.av1_settings.specs.declared.encoder.EncoderConfig.{EncoderConfig}
+use Rattle.av1_settings.specs.declared.status.EncoderStatus.{EncoderStatus}
+use Rattle.av1_settings.specs.declared.status.EncoderStatus.TheVariants.{NeedMoreData, EnoughData, LimitReached, Encoded, Failure, NotReady, FrameSizeMismatch, OutOfMemory as NoMemory}
+use Rattle.av1_settings.specs.Checks.{IsValid}
+use Rattle.pyramid.specs.declared.command.Command.{Command}
+use Rattle.session_core.specs.declared.call.Call.{Call}
+use Rattle.session_core.specs.declared.call.Call.TheVariants.{Send, Flush, Receive}
+use Rattle.session_core.specs.declared.call.FrameParameters.{FrameParameters}
+use Rattle.session_core.specs.declared.fault.SessionFault.{SessionFault}
+use Rattle.session_core.specs.declared.fault.SessionFault.TheVariants.{Coder, OutOfMemory}
+use Rattle.session_core.specs.declared.state.SessionState.{SessionState}
+use Rattle.session_core.specs.declared.transcript.Decision.{Decision}
+use Rattle.session_core.specs.declared.packet.Packet.{Packet}
+use Rattle.session_core.specs.declared.transcript.LogEntry.{LogEntry}
+use Rattle.session_core.specs.declared.transcript.Reply.{Reply}
+use Rattle.session_core.specs.declared.transcript.Reply.TheVariants.{Sent, Flushed, Packet as GivesPacket, Status}
+use Rattle.session_core.specs.declared.transcript.Turn.{Turn}
+use Rattle.session_core.specs.Contexts.{Session, GivesDone, GivesReply, IsAnswered, IsCall, IsFailed, IsReceiveReply, IsSend, Asks, RunsOut, status_of}
+use Rattle.session_core.specs.Held.{IsHeld, IsReached, Leads}
+use Rattle.session_core.specs.Moments.{Moment, opening}
+use Rattle.session_core.specs.States.{moment_of, IsReady, KeepsKeys}
+use Rattle.session_core.specs.Steps.{Fails, IsStep, WhereRefused}
+use Rattle.session_core.specs.Told.{Heard}
+use Rattle.session_core.specs.Turns.{held_back, is_showing, IsNextPacket, IsTurn, CodesNext, OnlyReplies}
+use Rattle.session_core.proofs.CallLoop.{leads-ready, leads-step}
+
+-- ---- what is kept
+
+pub held-fresh : {T O : Type 0} (enc : EncoderConfig) (state : SessionState T O) (failure : Option SessionFault) → IsValid enc →
+    moment_of state ≡ opening → KeepsKeys state → IsHeld enc state failure
+held-fresh {T} {O} enc state failure valid opened keys = record {
+  valid = valid;
+  reached = λ none. ([], [], record { answered = tt; leads = opened });
+  keys = λ none. keys;
+}
+
+pub held-ready : {T O : Type 0} (enc : EncoderConfig) (state : SessionState T O) (failure : Option SessionFault) → IsHeld enc state failure →
+    failure ≡ None → IsReady enc (moment_of state)
+held-ready enc state failure held none =
+    let (calls, turns, leads) = held.reached none in
+    leads-ready enc calls turns (moment_of state) held.valid.looks_ahead leads
+
+-- one more call
+pub held-step : {T O : Type 0} (enc : EncoderConfig) (state after : SessionState T O) (failure failure_after : Option SessionFault) (call : Call T O) (turn : Turn T O)
+    (told now : Heard T) → IsHeld enc state failure → failure ≡ None → IsStep enc call turn (moment_of state) (moment_of after) told now → KeepsKeys after →
+    IsHeld enc after failure_after
+held-step enc state after failure failure_after call turn told now held none step keys =
+    let (calls, turns, leads) = held.reached none in
+    record {
+      valid = held.valid;
+      reached = λ still. (calls ++ call ∷ [], turns ++ turn ∷ [], leads-step enc calls turns (moment_of state) (moment_of after) call turn leads step.answered step.moment);
+      keys = λ still. keys;
+    }
+
+-- where the session failed nothing more is kept
+pub held-failed : {T O : Type 0} (enc : EncoderConfig) (state after : SessionState T O) (failure failure_after : Option SessionFault) (fault : SessionFault) →
+    IsHeld enc state failure → failure_after ≡ Some fault → IsHeld enc after failure_after
+held-failed enc state after failure failure_after fault held is = record {
+  valid = held.valid;
+  reached = λ none. absurd (cc);
+  keys = λ none. absurd (cc);
+}
+
+-- ---- what is answered
+
+module _ {T O D C A : Type 0} (Gives : Reply T O → Result A EncoderStatus → Type 0) (call : Call T O) (before after : Session T O D C) (told now : Heard T) (result : Result A EncoderStatus) where
+  abbrev CallOf : Option SessionFault → Type 0
+  CallOf failure =
+      MatchOption failure
+      (IsAnswered Gives call before after told now result ⊎ IsFailed call before after told now result)
+      (λ fault. (result ≡ Err Failure) × (after ≡ before))
+
+  pub call-answered : before.failure ≡ None → IsAnswered Gives call before after told now result → IsCall Gives call before after told now result
+  call-answered none answered = subst CallOf (sym none) (inl answered)
+
+  pub call-failed : before.failure ≡ None → IsFailed call before after told now result → IsCall Gives call before after told now result
+  call-failed none failed = subst CallOf (sym none) (inr failed)
+
+  pub call-refused : (fault : SessionFault) → before.failure ≡ Some fault → result ≡ Err Failure → after ≡ before → IsCall Gives call before after told now result
+  call-refused fault some refused same = subst CallOf (sym some) (refused, same)
+
+-- the record of a context
+abbrev pub session_of : {T O D C : Type 0} → EncoderConfig → SessionState T O → Option SessionFault → D → C → Session T O D C
+session_of enc state failure detector coder =
+    record { enc = enc; moment = moment_of state; failure = failure; detector = detector; coder = coder }
+
+refused-map : {T O A B : Type 0} (reply : Reply T O) → (A → B) → WhereRefused reply A → WhereRefused reply B
+refused-map (Sent number) f holds = tt
+refused-map Flushed f holds = tt
+refused-map (GivesPacket packet) f holds = tt
+refused-map (Status NeedMoreData) f holds = f holds
+refused-map (Status EnoughData) f holds = f holds
+refused-map (Status LimitReached) f holds = f holds
+refused-map (Status Encoded) f holds = tt
+refused-map (Status Failure) f holds = f holds
+refused-map (Status NotReady) f holds = f holds
+refused-map (Status FrameSizeMismatch) f holds = f holds
+refused-map (Status NoMemory) f holds = f holds
+
+-- a call that a turn of the state answers
+pub call-of-turn : {T O D C : Type 0} (enc : EncoderConfig) (state after : SessionState T O) (failure : Option SessionFault) (d e : D) (c f : C) (call : Call T O) (turn : Turn T O)
+    (told now : Heard T) → failure ≡ None → IsStep enc call turn (moment_of state) (moment_of after) told now →
+    WhereRefused turn.reply ((after ≡ state) × (e ≡ d) × (f ≡ c)) →
+    IsCall GivesReply call (session_of enc state failure d c) (session_of enc after failure e f) told now (Ok turn.reply)
+call-of-turn {T} {O} {D} {C} enc state after failure d e c f call turn told now none step refused =
+    call-answered GivesReply call (session_of enc state failure d c) (session_of enc after failure e f) told now (Ok turn.reply) none (record {
+      turn = turn;
+      step = step;
+      reply = refl;
+      settings = refl;
+      unfailed = none;
+      refused = refused-map turn.reply same refused;
+    })
+  where
+    same : (after ≡ state) × (e ≡ d) × (f ≡ c) → session_of enc after failure e f ≡ session_of enc state failure d c
+    same (states, detectors, coders) = rw (states, detectors, coders) refl
+
+-- an answer made of a reply
+module _ {T O D C A : Type 0} (Gives : Reply T O → Result A EncoderStatus → Type 0) (call : Call T O) (before after : Session T O D C) (told now : Heard T)
+    (answer : Result (Reply T O) EncoderStatus) (result : Result A EncoderStatus)
+    (reply : IfOk answer (λ r. Gives r result)) (err : IfErr answer (λ status. result ≡ Err status)) where
+  of_reply : (r : Reply T O) → answer ≡ Ok r → Gives r result
+  of_reply r is = subst (λ (a : Result (Reply T O) EncoderStatus). IfOk a (λ r. Gives r result)) is reply
+
+  of_status : (status : EncoderStatus) → answer ≡ Err status → result ≡ Err status
+  of_status status is = subst (λ (a : Result (Reply T O) EncoderStatus). IfErr a (λ status. result ≡ Err status)) is err
+
+  by_failure : (failure : Option SessionFault) → CallOf GivesReply call before after told now answer failure → CallOf Gives call before after told now result failure
+  by_failure None (inl answered) = inl (record {
+    turn = answered.turn;
+    step = answered.step;
+    reply = of_reply answered.turn.reply answered.reply;
+    settings = answered.settings;
+    unfailed = answered.unfailed;
+    refused = answered.refused;
+  })
+  by_failure None (inr failed) = inr (record {
+    fault = failed.fault;
+    fails = failed.fails;
+    status = of_status _ failed.status;
+    settings = failed.settings;
+    kept = failed.kept;
+  })
+  by_failure (Some fault) (refused, same) = (of_status Failure refused, same)
+
+  pub call-gives : IsCall GivesReply call before after told now answer → IsCall Gives call before after told now result
+  call-gives is = by_failure before.failure is
+
+pub none-of : {A : Type 0} (o : Option A) → is_some o ≡ false → o ≡ None
+none-of None is = refl
+none-of (Some a) is = cc
+
+-- neither a send nor a flush is failed by the coder
+runs-out : {T O D C A : Type 0} (picture : Option (Frame T)) (parameters : Option (FrameParameters O)) (call : Call T O) (before after : Session T O D C) (told now : Heard T) (result : Result A EncoderStatus) →
+    Asks picture parameters call → IsFailed call before after told now result → RunsOut before after result
+runs-out {T} {O} {D} {C} {A} picture parameters call before after told now result asks failed = by_fault failed.fault failed.fails failed.status failed.kept
+  where
+    not-receive : (picture : Option (Frame T)) → Asks picture parameters Receive → ⊥
+    not-receive None asks = cc
+    not-receive (Some one) asks = asks
+
+    by_fault : (fault : SessionFault) → Fails before.enc call before.moment told now fault → result ≡ Err (status_of fault) → after.failure ≡ Some fault →
+        RunsOut before after result
+    by_fault (Coder number) fails status kept = absurd (not-receive picture (subst (Asks picture parameters) fails.0 asks))
+    by_fault OutOfMemory fails status kept = record { status = status; settings = failed.settings; kept = kept }
+
+pub send-of : {T O D C A : Type 0} (picture : Option (Frame T)) (parameters : Option (FrameParameters O)) (call : Call T O) (before after : Session T O D C) (told now : Heard T) (result : Result A EncoderStatus) →
+    Asks picture parameters call → IsCall GivesDone call before after told now result → IsSend picture parameters before after told now result
+send-of {T} {O} {D} {C} {A} picture parameters call before after told now result asks is = by_failure before.failure is
+  where
+    SendOf : Option SessionFault → Type 0
+    SendOf failure =
+        MatchOption failure
+        (((call : Call T O) × Asks picture parameters call × IsAnswered GivesDone call before after told now result) ⊎ RunsOut before after result)
+        (λ fault. (result ≡ Err Failure) × (after ≡ before))
+
+    by_failure : (failure : Option SessionFault) → CallOf GivesDone call before after told now result failure → SendOf failure
+    by_failure None (inl answered) = inl (call, asks, answered)
+    by_failure None (inr failed) = inr (runs-out picture parameters call before after told now result asks failed)
+    by_failure (Some fault) refused = refused
+
+-- what a receive replies
+pub receive-reply : {T O : Type 0} (enc : EncoderConfig) (decisions : List Decision) (moment : Moment T O) (turn : Turn T O) → IsTurn enc decisions moment Receive turn →
+    IsReceiveReply turn.reply
+receive-reply {T} {O} enc decisions moment turn is = by_reason (held_back enc moment) is
+  where
+    by_command : (c : Command) (reply : Reply T O) (entry : LogEntry) → MatchBool (is_showing c)
+        ((packet : Packet T O) × (reply ≡ GivesPacket packet) × IsNextPacket moment entry packet) (reply ≡ Status Encoded) → IsReceiveReply reply
+    by_command c reply entry received = by_shown (is_showing c) received
+      where
+        by_shown : (shown : Bool) → MatchBool shown ((packet : Packet T O) × (reply ≡ GivesPacket packet) × IsNextPacket moment entry packet) (reply ≡ Status Encoded) →
+            IsReceiveReply reply
+        by_shown true (packet, gives, next) = subst IsReceiveReply (sym gives) tt
+        by_shown false hidden = subst IsReceiveReply (sym hidden) tt
+
+    by_reason : (reason : Option EncoderStatus) → MatchOption reason (CodesNext enc moment turn) (λ status. OnlyReplies turn (Status status)) → IsReceiveReply turn.reply
+    by_reason None codes = by_command codes.entry.command turn.reply codes.entry codes.reply
+    by_reason (Some status) only = subst IsReceiveReply (sym only.0) tt
+
+pub received-reply : {T O D C : Type 0} (before after : Session T O D C) (told now : Heard T) (answer : Result (Reply T O) EncoderStatus) →
+    IsCall GivesReply Receive before after told now answer → IfOk answer (λ reply. IsReceiveReply reply)
+received-reply {T} {O} {D} {C} before after told now answer is = by_failure before.failure is
+  where
+    Replies : Result (Reply T O) EncoderStatus → Type 0
+    Replies a = IfOk a (λ reply. IsReceiveReply reply)
+
+    by_failure : (failure : Option SessionFault) → CallOf GivesReply Receive before after told now answer failure → Replies answer
+    by_failure None (inl answered) =
+        subst Replies (sym answered.reply) (receive-reply before.enc after.moment.decisions before.moment answered.turn answered.step.answered)
+    by_failure None (inr failed) = subst Replies (sym failed.status) tt
+    by_failure (Some fault) (refused, same) = subst Replies (sym refused) tt

@@ -1,0 +1,107 @@
+-- What contracts see of a context, and what one call of it does.
+use Rattle.std.specs.Prelude.{◌≡◌, ◌⊎◌, ⊤, ◌||◌, Bool, pos, int_lt, MatchOption, Option, None, Some, Result, Ok, Err, IsOk}
+use Rattle.av1_frame.specs.declared.frame.Frame.{Frame}
+use Rattle.av1_settings.specs.Checks.{asks_passes}
+use Rattle.av1_settings.specs.declared.config.Config.{Config}
+use Rattle.av1_settings.specs.declared.encoder.EncoderConfig.{EncoderConfig}
+use Rattle.av1_settings.specs.declared.status.EncoderStatus.{EncoderStatus}
+use Rattle.av1_settings.specs.declared.status.EncoderStatus.TheVariants.{Failure, OutOfMemory as NoMemory}
+use Rattle.session_core.specs.declared.call.Call.{Call}
+use Rattle.session_core.specs.declared.call.Call.TheVariants.{Send, Flush}
+use Rattle.session_core.specs.declared.call.FrameParameters.{FrameParameters}
+use Rattle.session_core.specs.declared.fault.SessionFault.{SessionFault}
+use Rattle.session_core.specs.declared.fault.SessionFault.TheVariants.{Coder, OutOfMemory}
+use Rattle.session_core.specs.declared.packet.Packet.{Packet}
+use Rattle.session_core.specs.declared.transcript.Reply.{Reply}
+use Rattle.session_core.specs.declared.transcript.Reply.TheVariants.{Sent, Flushed, Packet as GivesPacket, Status}
+use Rattle.session_core.specs.declared.transcript.Turn.{Turn}
+use Rattle.session_core.specs.Moments.{Moment, opening}
+use Rattle.session_core.specs.Steps.{Fails, IsStep, WhereRefused}
+use Rattle.session_core.specs.Told.{Heard}
+
+-- the settings, the session's moment, the cause of the first call that failed, if one did, and those outside it
+pub record Session (T O D C : Type 0) : Type 0 where
+  pub enc : EncoderConfig
+  pub moment : Moment T O
+  pub failure : Option SessionFault
+  pub detector : D
+  pub coder : C
+
+-- a session that hasn't begun, with this detector and this coder
+abbrev pub fresh : {T O D C : Type 0} → EncoderConfig → D → C → Session T O D C
+fresh enc detector coder =
+    record { enc = enc; moment = opening; failure = None; detector = detector; coder = coder }
+
+-- what a send or a flush answers: the status of its reply, or only that it is done
+abbrev pub GivesDone : {T O A : Type 0} → Reply T O → Result A EncoderStatus → Type 0
+GivesDone (Status status) result = result ≡ Err status
+GivesDone reply result = IsOk result
+
+-- what a receive answers: the packet of its reply, or the status
+abbrev pub GivesReceived : {T O : Type 0} → Reply T O → Result (Packet T O) EncoderStatus → Type 0
+GivesReceived (GivesPacket packet) result = result ≡ Ok packet
+GivesReceived (Status status) result = result ≡ Err status
+GivesReceived reply result = ⊥
+
+-- a reply to a receive
+abbrev pub IsReceiveReply : {T O : Type 0} → Reply T O → Type 0
+IsReceiveReply (Sent number) = ⊥
+IsReceiveReply Flushed = ⊥
+IsReceiveReply reply = ⊤
+
+-- what a call answers in between: its reply
+abbrev pub GivesReply : {T O : Type 0} → Reply T O → Result (Reply T O) EncoderStatus → Type 0
+GivesReply reply result = result ≡ Ok reply
+
+-- the status of a call that failed
+abbrev pub status_of : SessionFault → EncoderStatus
+status_of (Coder command) = Failure
+status_of OutOfMemory = NoMemory
+
+-- a call that was answered as the reply table says; one that is refused changes nothing
+pub record IsAnswered {T O D C A : Type 0} (Gives : Reply T O → Result A EncoderStatus → Type 0) (call : Call T O) (before after : Session T O D C) (told now : Heard T) (result : Result A EncoderStatus) : Type 0 where
+  pub turn : Turn T O
+  pub step : IsStep before.enc call turn before.moment after.moment told now
+  pub reply : Gives turn.reply result
+  pub settings : after.enc ≡ before.enc
+  pub unfailed : after.failure ≡ None
+  pub refused : WhereRefused turn.reply (after ≡ before)
+
+-- a call that failed, and the session with it: its cause is kept
+pub record IsFailed {T O D C A : Type 0} (call : Call T O) (before after : Session T O D C) (told now : Heard T) (result : Result A EncoderStatus) : Type 0 where
+  pub fault : SessionFault
+  pub fails : Fails before.enc call before.moment told now fault
+  pub status : result ≡ Err (status_of fault)
+  pub settings : after.enc ≡ before.enc
+  pub kept : after.failure ≡ Some fault
+
+-- any call: in a session that has failed it fails, and nothing changes
+abbrev pub IsCall : {T O D C A : Type 0} → (Reply T O → Result A EncoderStatus → Type 0) → Call T O → Session T O D C → Session T O D C → Heard T → Heard T → Result A EncoderStatus → Type 0
+IsCall Gives call before after told now result =
+    MatchOption before.failure
+    (IsAnswered Gives call before after told now result ⊎ IsFailed call before after told now result)
+    (λ fault. (result ≡ Err Failure) × (after ≡ before))
+
+-- a call sends this picture with these parameters, or flushes where there is none
+abbrev pub Asks : {T O : Type 0} → Option (Frame T) → Option (FrameParameters O) → Call T O → Type 0
+Asks None parameters call = call ≡ Flush
+Asks (Some picture) parameters (Send frame given) = (frame.value ≡ picture) × (given ≡ parameters)
+Asks (Some picture) parameters call = ⊥
+
+-- memory ran out, and the session failed
+pub record RunsOut {T O D C A : Type 0} (before after : Session T O D C) (result : Result A EncoderStatus) : Type 0 where
+  pub status : result ≡ Err NoMemory
+  pub settings : after.enc ≡ before.enc
+  pub kept : after.failure ≡ Some OutOfMemory
+
+-- a send of this picture with these parameters, or a flush where there is none
+abbrev pub IsSend : {T O D C A : Type 0} → Option (Frame T) → Option (FrameParameters O) → Session T O D C → Session T O D C → Heard T → Heard T → Result A EncoderStatus → Type 0
+IsSend {T} {O} picture parameters before after told now result =
+    MatchOption before.failure
+    (((call : Call T O) × Asks picture parameters call × IsAnswered GivesDone call before after told now result)
+    ⊎ RunsOut before after result)
+    (λ fault. (result ≡ Err Failure) × (after ≡ before))
+
+-- whether a configuration asks for what sessions don't follow yet: pass data, a summary, or a bitrate
+abbrev pub asks_unbuilt : Config → Bool
+asks_unbuilt config = asks_passes config || int_lt (pos 0) config.enc.bitrate

@@ -1,0 +1,60 @@
+-- What one call of a session does, and how it fails; a session is as many of these as it has calls, however they come.
+use Rattle.std.specs.Prelude.{◌≡◌, ⊤, ℕ, [], List, length}
+use Rattle.std.specs.List.{flat_map}
+use Rattle.coding_base.specs.Faults.{Rose}
+use Rattle.av1_settings.specs.declared.encoder.EncoderConfig.{EncoderConfig}
+use Rattle.av1_settings.specs.declared.status.EncoderStatus.TheVariants.{Encoded}
+use Rattle.pyramid.specs.declared.command.Command.{Command}
+use Rattle.session_core.specs.declared.call.Call.{Call}
+use Rattle.session_core.specs.declared.call.Call.TheVariants.{Receive}
+use Rattle.session_core.specs.declared.fault.SessionFault.{SessionFault}
+use Rattle.session_core.specs.declared.fault.SessionFault.TheVariants.{Coder, OutOfMemory}
+use Rattle.session_core.specs.declared.transcript.LogEntry.{LogEntry}
+use Rattle.session_core.specs.declared.transcript.Reply.{Reply}
+use Rattle.session_core.specs.declared.transcript.Reply.TheVariants.{Status}
+use Rattle.session_core.specs.declared.transcript.Turn.{Turn}
+use Rattle.session_core.specs.Answers.{Codes}
+use Rattle.session_core.specs.Moments.{Moment}
+use Rattle.session_core.specs.Questions.{IsAskedIn}
+use Rattle.session_core.specs.Taken.{IsTaken, handed_at, packet_of}
+use Rattle.session_core.specs.Told.{CoderTold, Counts, FailsBehind, Heard}
+use Rattle.session_core.specs.Turns.{BeginTrials, IsTurn, after_turn}
+
+-- what holds where a call was refused, which is any status but that a hidden frame was encoded
+abbrev pub WhereRefused : {T O : Type 0} → Reply T O → Type 0 → Type 0
+WhereRefused (Status Encoded) Holds = ⊤
+WhereRefused (Status status) Holds = Holds
+WhereRefused reply Holds = ⊤
+
+-- a call: its reply and what it coded, the moment after it, and what was told of it
+pub record IsStep {T O : Type 0} (enc : EncoderConfig) (call : Call T O) (turn : Turn T O) (before after : Moment T O) (told now : Heard T) : Type 0 where
+  -- the reply table
+  pub answered : IsTurn enc after.decisions before call turn
+  pub moment : after ≡ after_turn enc after.decisions before call turn
+  -- what the coder took, and that none of it is a call that it told to fail
+  pub taken : IsTaken (flat_map (handed_at before) turn.log) turn.log (packet_of turn.reply) told.coder now.coder
+  pub counted : Counts told.coder.fails_after now.coder.fails_after (length turn.log)
+  -- what the detector was asked
+  pub asked : IsAskedIn enc before after told.detector.questions now.detector.questions told.detector.answers
+
+-- the coder failed in the receive that codes the command of this number, behind what it took of the tries for it
+pub record IsCoderFault {T O : Type 0} (enc : EncoderConfig) (before : Moment T O) (told now : CoderTold T) (number : ℕ) : Type 0 where
+  pub command : Command
+  pub trials : List LogEntry
+  pub due : Codes enc before number command
+  pub tried : BeginTrials enc before command trials
+  pub taken : IsTaken {T = T} {O = O} (flat_map (handed_at before) trials) trials [] told now
+  -- where it tells its first failing call ahead, it is this one
+  pub reached : FailsBehind told.fails_after (length trials)
+  pub rose : Rose told.faults now.faults
+
+-- a receive that failed; want of memory has no cause that is told
+abbrev pub FailsReceiving : {T O : Type 0} → EncoderConfig → Moment T O → CoderTold T → CoderTold T → SessionFault → Type 0
+FailsReceiving enc before told now (Coder number) = IsCoderFault enc before told now number
+FailsReceiving enc before told now OutOfMemory = ⊤
+
+-- a call that failed: a receive because of the coder, which leaves the detector alone, or any for want of memory
+abbrev pub Fails : {T O : Type 0} → EncoderConfig → Call T O → Moment T O → Heard T → Heard T → SessionFault → Type 0
+Fails enc call before told now (Coder number) =
+    (call ≡ Receive) × IsCoderFault enc before told.coder now.coder number × (now.detector ≡ told.detector)
+Fails enc call before told now OutOfMemory = ⊤

@@ -1,0 +1,282 @@
+// A session that is called one call at a time.
+ghost use Rattle.std.specs.Prelude.{◌≡◌, ◌&&◌, ◌||◌, not, nat_lt, None, Some, Err, IfOk, IfErr, IsOk, IsSome, IsTrue, false, is_none};
+ghost use Rattle.av1_frame.specs.Planes.{IsFilled};
+ghost use Rattle.av1_frame.specs.Sizes.{chroma_size};
+ghost use Rattle.av1_settings.specs.declared.invalid.InvalidConfig.{InvalidConfig};
+ghost use Rattle.av1_settings.specs.Checks.{pixel_refusal};
+ghost use Rattle.av1_settings.specs.Header.{container_sequence_header};
+ghost use Rattle.session_core.specs.declared.call.Call.TheVariants.{Flush, Receive};
+ghost use Rattle.session_core.specs.declared.setup.SetupError.TheVariants.{Invalid, Unbuilt};
+ghost use Rattle.session_core.specs.Contexts.{GivesDone, GivesReceived, GivesReply, IsCall, IsReceiveReply, IsSend, asks_unbuilt, fresh, Asks};
+ghost use Rattle.std.specs.Option.{option_map};
+ghost use Rattle.session_core.specs.Moments.{is_complete};
+ghost use Rattle.session_core.specs.Told.{heard};
+ghost use Rattle.session_core.specs.Turns.{needs_more_data};
+
+use crate::state::SessionState;
+use crate::{Call, Detector, FrameCoder, FrameParameters, Packet, Reply, SessionFault, SetupError};
+use av1_frame::{Frame, Pixel};
+use av1_settings::{Config, EncoderConfig, EncoderStatus, LevelTables, container_sequence_header};
+use coding_base::OutOfMemory;
+use std::alloc::Global;
+use std::marker::Model;
+use std::sync::Arc;
+
+/// A session that is called one call at a time, with its detector and its coder. Contracts see it as a record (`Session`):
+/// the settings, the session's moment, the cause of the first call that failed, the detector and the coder.
+///
+/// Each call is answered as a turn of `run_session` is, at the moment that the calls before it lead to. Where a call fails
+/// its cause is kept, and each later call answers Failure and changes nothing.
+#[derive(Drop)]
+pub struct ContextInner<T, O, D, C> {
+    enc: EncoderConfig,
+    state: SessionState<T, O>,
+    failure: Option<SessionFault>,
+    detector: D,
+    coder: C,
+}
+
+impl<T, O, D, C> Model for ContextInner<T, O, D, C> {
+    ghost use Rattle.session_core.specs.Contexts.{Session};
+    ghost use Rattle.session_core.specs.States.{moment_of};
+    ghost use Rattle.session_core.specs.Held.{IsHeld};
+
+    ghost Value = { Session T O D C };
+
+    ghost view = { λ c. record {
+      enc = c.enc;
+      moment = moment_of c.state;
+      failure = c.failure;
+      detector = c.detector;
+      coder = c.coder;
+    } };
+
+    ghost invariant = { λ c. IsHeld c.enc c.state c.failure };
+}
+
+impl<T: Pixel, O: Drop, D: Detector<T> + Drop, C: FrameCoder<T> + Drop> ContextInner<T, O, D, C> {
+    /// A session that hasn't begun, for a configuration in one pass without a bitrate. `levels` has the limits of the AV1
+    /// specification's levels.
+    ///
+    /// The errors are `Invalid`, with the configuration's first refusal, one of which is a bit depth above the pixel type's;
+    /// `Unbuilt` where the configuration is valid and asks for pass data, a summary or a bitrate.
+    pub fn new(
+        alloc: Global,
+        cfg: &Config,
+        levels: &LevelTables,
+        detector: D,
+        coder: C,
+    ) -> Result<ContextInner<T, O, D, C>, SetupError>
+        ensures made { IfOk result (λ c. c ≡ fresh cfg.now.enc detector coder) }
+        ensures invalid { (v : InvalidConfig)
+            → result ≡ Err (Invalid v)
+            → pixel_refusal T.BITS levels.now cfg.now ≡ Some v }
+        ensures refused { (v : InvalidConfig)
+            → pixel_refusal T.BITS levels.now cfg.now ≡ Some v
+            → result ≡ Err (Invalid v) }
+        ensures unbuilt { result ≡ Err Unbuilt
+            → (pixel_refusal T.BITS levels.now cfg.now ≡ None) × IsTrue (asks_unbuilt cfg.now) }
+        ensures asks { pixel_refusal T.BITS levels.now cfg.now ≡ None
+            → IsTrue (asks_unbuilt cfg.now)
+            → result ≡ Err Unbuilt }
+        ensures complete { pixel_refusal T.BITS levels.now cfg.now ≡ None
+            → asks_unbuilt cfg.now ≡ false
+            → IsOk result }
+    {
+        if let Err(refusal) = cfg.validate_for_pixel(levels, T::BITS) {
+            return Err(SetupError::Invalid(refusal));
+        }
+        if asks_unbuilt(cfg) {
+            return Err(SetupError::Unbuilt);
+        }
+        Ok(ContextInner {
+            enc: cfg.enc,
+            state: SessionState::new(alloc),
+            failure: None,
+            detector,
+            coder,
+        })
+    }
+
+    /// Sends a frame, with or without parameters; no frame is a flush.
+    ///
+    /// The statuses, in this order: Failure in a session that has failed; EnoughData after a flush, for a second frame of a
+    /// still picture, and past 2147483646 frames; FrameSizeMismatch; OutOfMemory, which fails the session.
+    pub fn send_frame(
+        &mut self,
+        alloc: Global,
+        frame: Option<Arc<Frame<T>>>,
+        params: Option<FrameParameters<O>>,
+    ) -> Result<(), EncoderStatus>
+        ensures call { IsSend (option_map (λ shared. shared.value) frame) params
+            self.old self.new
+            (heard (C.told self.old.coder) (D.told self.old.detector))
+            (heard (C.told self.new.coder) (D.told self.new.detector)) result }
+    {
+        done(self.call(alloc, sending(frame, params)))
+    }
+
+    /// Says that no further frame comes. A second flush changes nothing.
+    ///
+    /// The statuses are Failure in a session that has failed, and OutOfMemory, which fails the session.
+    pub fn flush(&mut self, alloc: Global) -> Result<(), EncoderStatus>
+        ensures call { IsCall GivesDone Flush self.old self.new
+            (heard (C.told self.old.coder) (D.told self.old.detector))
+            (heard (C.told self.new.coder) (D.told self.new.detector)) result }
+    {
+        done(self.call(alloc, Call::Flush))
+    }
+
+    /// Has the coder carry out the plan's next command, if it is known, and gives the packet of the frame that it shows.
+    ///
+    /// The statuses, in this order: Failure in a session that has failed; LimitReached once it is flushed and every frame's
+    /// packet was given; NeedMoreData while too few frames are known; then a command is coded: Failure where the coder fails,
+    /// OutOfMemory, both of which fail the session, or Encoded for a frame that isn't shown yet.
+    pub fn receive_packet(&mut self, alloc: Global) -> Result<Packet<T, O>, EncoderStatus>
+        ensures call { IsCall GivesReceived Receive self.old self.new
+            (heard (C.told self.old.coder) (D.told self.old.detector))
+            (heard (C.told self.new.coder) (D.told self.new.detector)) result }
+    {
+        received(self.call(alloc, Call::Receive))
+    }
+
+    // Carries out a call, and keeps the cause where it fails.
+    fn call(&mut self, alloc: Global, call: Call<T, O>) -> Result<Reply<T, O>, EncoderStatus>
+        ensures call { IsCall GivesReply call self.old self.new
+            (heard (C.told self.old.coder) (D.told self.old.detector))
+            (heard (C.told self.new.coder) (D.told self.new.detector)) result }
+    {
+        if self.failure.is_some() {
+            return Err(EncoderStatus::Failure);
+        }
+        let turn = self.state.turn(alloc, &self.enc, &mut self.detector, &mut self.coder, call);
+        match turn {
+            Ok(turn) => Ok(turn.reply),
+            Err(fault) => {
+                self.failure = Some(fault);
+                Err(fault.status())
+            }
+        }
+    }
+
+    /// Fails the session, where it hasn't failed yet, because memory ran out for one of its calls.
+    pub(crate) fn run_out(&mut self) -> EncoderStatus
+        ensures failed { IsSome self.old.failure
+            → (result ≡ EncoderStatus.Failure) × (self.new ≡ self.old) }
+        ensures fails { self.old.failure ≡ None
+            → (result ≡ EncoderStatus.OutOfMemory)
+            × (self.new ≡ record self.old { failure = Some SessionFault.OutOfMemory }) }
+    {
+        if self.failure.is_some() {
+            return EncoderStatus::Failure;
+        }
+        self.failure = Some(SessionFault::OutOfMemory);
+        EncoderStatus::OutOfMemory
+    }
+
+    /// A frame of the settings' size, each sample the least one. The session stays as it is, also where memory runs out.
+    pub fn new_frame(&self, alloc: Global) -> Result<Frame<T>, OutOfMemory>
+        ensures y { IfOk result (λ frame.
+            IsFilled T.MIN frame.y (self.now.enc.width, self.now.enc.height)) }
+        ensures u { IfOk result (λ frame. IsFilled T.MIN frame.u
+            (chroma_size self.now.enc.width self.now.enc.height self.now.enc.chroma_sampling)) }
+        ensures v { IfOk result (λ frame. IsFilled T.MIN frame.v
+            (chroma_size self.now.enc.width self.now.enc.height self.now.enc.chroma_sampling)) }
+    {
+        let enc = &self.enc;
+        Frame::new(alloc, enc.width, enc.height, enc.chroma_sampling)
+    }
+
+    /// The four bytes that a container says of the stream. No memory is taken.
+    pub fn container_sequence_header(&self) -> [u8; 4]
+        ensures { result ≡ container_sequence_header self.now.enc }
+    {
+        container_sequence_header(&self.enc)
+    }
+
+    /// Why the session failed: the cause of the first call that answered Failure or OutOfMemory.
+    pub fn failure(&self) -> Option<SessionFault>
+        ensures { result ≡ self.now.failure }
+    {
+        self.failure
+    }
+
+    /// Whether a receive would answer NeedMoreData. A session that has failed wants nothing. No memory is taken.
+    pub fn needs_more_fi_lookahead(&self) -> bool
+        ensures { result
+            ≡ (is_none self.now.failure && needs_more_data self.now.enc self.now.moment) }
+    {
+        self.failure.is_none() && self.state.needs_more_data(&self.enc)
+    }
+
+    /// Whether the session isn't flushed, or fewer frames than it accepted are meant by `frame_count`. No memory is taken.
+    pub fn needs_more_frames(&self, frame_count: u64) -> bool
+        ensures { result ≡ (not self.now.moment.flushed
+            || nat_lt frame_count self.now.moment.accepted) }
+    {
+        !self.state.flushed || frame_count < self.state.accepted
+    }
+
+    /// Whether the session is flushed and every frame's packet was given. No memory is taken.
+    pub fn done_processing(&self) -> bool
+        ensures { result ≡ (self.now.moment.flushed && is_complete self.now.moment) }
+    {
+        self.state.flushed && self.state.is_complete()
+    }
+
+    /// Gives the coder back as the session's calls left it, also after a failure. No memory is taken.
+    pub fn into_coder(self) -> C
+        ensures { result ≡ self.coder }
+    {
+        let ContextInner { coder, .. } = self;
+        coder
+    }
+}
+
+// Whether a configuration asks for what sessions don't follow yet.
+fn asks_unbuilt(cfg: &Config) -> bool
+    ensures { result ≡ asks_unbuilt cfg.now }
+{
+    cfg.rate_control.emit_data || cfg.rate_control.summary.is_some() || cfg.enc.bitrate > 0
+}
+
+// What a frame and its parameters ask for.
+fn sending<T, O: Drop>(
+    frame: Option<Arc<Frame<T>>>,
+    params: Option<FrameParameters<O>>,
+) -> Call<T, O>
+    ensures { Asks (option_map (λ shared. shared.value) frame) params result }
+{
+    match frame {
+        Some(frame) => Call::Send(frame, params),
+        None => Call::Flush,
+    }
+}
+
+// What a receive answers.
+fn received<T: Drop, O: Drop>(
+    answer: Result<Reply<T, O>, EncoderStatus>,
+) -> Result<Packet<T, O>, EncoderStatus>
+    requires { IfOk answer (λ reply. IsReceiveReply reply) }
+    ensures reply { IfOk answer (λ reply. GivesReceived reply result) }
+    ensures err { IfErr answer (λ status. result ≡ Err status) }
+{
+    match answer {
+        Ok(Reply::Packet(packet)) => Ok(packet),
+        Ok(Reply::Status(status)) => Err(status),
+        Ok(_) => unreachable!(),
+        Err(status) => Err(status),
+    }
+}
+
+// What a send or a flush answers.
+fn done<T: Drop, O: Drop>(answer: Result<Reply<T, O>, EncoderStatus>) -> Result<(), EncoderStatus>
+    ensures reply { IfOk answer (λ reply. GivesDone reply result) }
+    ensures err { IfErr answer (λ status. result ≡ Err status) }
+{
+    match answer {
+        Ok(Reply::Status(status)) => Err(status),
+        Ok(_) => Ok(()),
+        Err(status) => Err(status),
+    }
+}
