@@ -1,6 +1,6 @@
 -- Sums of counts: in any order, in any groups, and with nothing; and the sums of the first counts, one more at a time.
 use Rattle.std.proofs.Common.{◌≡◌, ℕ, suc, zero, ◌+◌, ◌<◌, ◌≤◌, ◌^◌, List, [], ◌∷◌, ◌++◌, length, replicate, take, drop, get_or, set, refl, ap, ◌∙◌, arith}
-use Rattle.av1_settings.specs.Stats.{saturated_sum, counts_sum}
+use Rattle.av1_settings.specs.Stats.{saturated_sum, counts_sum, SumsAssociate, SumsCommute}
 
 pub saturated_sum-comm : (a b : ℕ) → saturated_sum a b ≡ saturated_sum b a
 saturated_sum-comm a b = omega arith
@@ -22,6 +22,25 @@ counts_sum-assoc [] ys zs = refl
 counts_sum-assoc (x ∷ xs) [] zs = refl
 counts_sum-assoc (x ∷ xs) (y ∷ ys) [] = refl
 counts_sum-assoc (x ∷ xs) (y ∷ ys) (z ∷ zs) = λ i. saturated_sum-assoc x y z i ∷ counts_sum-assoc xs ys zs i
+
+pub stats_sum-comm : SumsCommute
+stats_sum-comm a b = λ i. record {
+  block_size_counts = counts_sum-comm a.block_size_counts b.block_size_counts i;
+  skip_block_count = saturated_sum-comm a.skip_block_count b.skip_block_count i;
+  tx_type_counts = counts_sum-comm a.tx_type_counts b.tx_type_counts i;
+  luma_pred_mode_counts = counts_sum-comm a.luma_pred_mode_counts b.luma_pred_mode_counts i;
+  chroma_pred_mode_counts = counts_sum-comm a.chroma_pred_mode_counts b.chroma_pred_mode_counts i;
+}
+
+pub stats_sum-assoc : SumsAssociate
+stats_sum-assoc a b c = λ i. record {
+  block_size_counts = counts_sum-assoc a.block_size_counts b.block_size_counts c.block_size_counts i;
+  skip_block_count = saturated_sum-assoc a.skip_block_count b.skip_block_count c.skip_block_count i;
+  tx_type_counts = counts_sum-assoc a.tx_type_counts b.tx_type_counts c.tx_type_counts i;
+  luma_pred_mode_counts = counts_sum-assoc a.luma_pred_mode_counts b.luma_pred_mode_counts c.luma_pred_mode_counts i;
+  chroma_pred_mode_counts =
+      counts_sum-assoc a.chroma_pred_mode_counts b.chroma_pred_mode_counts c.chroma_pred_mode_counts i;
+}
 
 pub counts_sum-zeros : (xs : List ℕ) → ((i : ℕ) → get_or xs i 0 < 2 ^ 64) → counts_sum xs (replicate (length xs) 0) ≡ xs
 counts_sum-zeros [] fit = refl

@@ -1,5 +1,5 @@
 -- The sums of an encoder's counts.
-use Rattle.std.specs.Prelude.{ℕ, ◌+◌, ◌-◌, ◌^◌, min, List, map, replicate}
+use Rattle.std.specs.Prelude.{◌≡◌, ℕ, ◌+◌, ◌-◌, ◌^◌, min, List, map, replicate}
 use Rattle.std.specs.List.{zip}
 use Rattle.av1_settings.specs.declared.encoder_stats.EncoderStats.{EncoderStats}
 
@@ -29,3 +29,16 @@ no_stats = record {
   luma_pred_mode_counts = replicate 34 0;
   chroma_pred_mode_counts = replicate 34 0;
 }
+
+-- ---- what holds of sums, where counts stop too
+
+abbrev pub SumsCommute : Type 0
+SumsCommute = (a b : EncoderStats) → stats_sum a b ≡ stats_sum b a
+
+abbrev pub SumsAssociate : Type 0
+SumsAssociate =
+    (a b c : EncoderStats) → stats_sum (stats_sum a b) c ≡ stats_sum a (stats_sum b c)
+
+-- so the default is the unit
+abbrev pub DefaultAddsNothingTo : EncoderStats → Type 0
+DefaultAddsNothingTo a = (stats_sum a no_stats ≡ a) × (stats_sum no_stats a ≡ a)

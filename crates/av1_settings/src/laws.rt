@@ -1,15 +1,15 @@
 //! What holds of settings and counts beyond a single call, each law as the contract of a function.
 
 ghost use Rattle.std.specs.Prelude.{◌≡◌, length, replicate};
-ghost use Rattle.av1_settings.specs.Stats.{counts_sum, no_stats, saturated_sum, stats_sum};
+ghost use Rattle.av1_settings.specs.Stats.{DefaultAddsNothingTo, SumsAssociate, SumsCommute, counts_sum, saturated_sum};
 
 use crate::EncoderStats;
 
-/// Counts may be added in any order and in any groups, and the default adds nothing.
-pub fn sums_of_stats(a: EncoderStats, b: EncoderStats, c: EncoderStats)
-    ensures commutative { stats_sum a b ≡ stats_sum b a }
-    ensures associative { stats_sum (stats_sum a b) c ≡ stats_sum a (stats_sum b c) }
-    ensures unit { stats_sum a no_stats ≡ a }
+/// Counts may be added in any order and in any groups, and the default adds nothing, also where a count stops.
+pub fn sums_of_stats(a: EncoderStats)
+    ensures commutative { SumsCommute }
+    ensures associative { SumsAssociate }
+    ensures unit { DefaultAddsNothingTo a }
 {
     keeps_counts(&a.block_size_counts);
     keeps_count(a.skip_block_count);

@@ -19,7 +19,7 @@ fn sums_stop_at_the_greatest_count(rt: HostRuntime) {
     assert!(rt; stats == sum && stats != more);
     let copy = more.clone().unwrap();
     assert!(rt; copy == more);
-    sums_of_stats(stats, more, sum);
+    sums_of_stats(sum);
 }
 
 #[test]
