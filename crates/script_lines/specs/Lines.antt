@@ -3,7 +3,7 @@ use Rattle.std.specs.Prelude.{ℕ, Bool, ◌==◌, ◌&&◌, nat_le, if◌then�
 use Rattle.std.specs.List.{slice_split}
 use Rattle.std.specs.Option.{option_map, option_or}
 use Rattle.script_lines.specs.declared.line.Action.{Action}
-use Rattle.script_lines.specs.declared.line.Action.TheVariants.{Send, SendKey, SendSize, Flush, Receive}
+use Rattle.script_lines.specs.declared.line.Action.TheVariants.{Send, SendKey, SendOpaque, SendSize, Flush, Receive}
 use Rattle.script_lines.specs.declared.line.TheConstants.{MOST_SIDE}
 use Rattle.script_lines.specs.declared.line.Line.{Line}
 use Rattle.script_lines.specs.declared.line.Line.TheVariants.{Blank, Set, Answers, Prints, Summary, Calls}
@@ -46,10 +46,15 @@ calls_of_none word =
     else if bytes_eq word (codes "receive") then some_calls Receive 1
     else None
 
--- the calls of a word and a number: `send N`, `receive N`
+-- one call that sends a frame with this opaque value
+abbrev pub opaque_call : ℕ → Option Line
+opaque_call value = some_calls (SendOpaque value) 1
+
+-- the calls of a word and a number: `send N`, `sendopaque V`, `receive N`
 abbrev pub calls_of_one : List ℕ → List ℕ → Option Line
 calls_of_one word text =
     if bytes_eq word (codes "send") then option_and_then (some_calls Send) (number_of text)
+    else if bytes_eq word (codes "sendopaque") then option_and_then opaque_call (number_of text)
     else if bytes_eq word (codes "receive") then option_and_then (some_calls Receive) (number_of text)
     else None
 

@@ -17,6 +17,8 @@ pub enum Action {
     Send,
     /// Send the plain picture as a key frame.
     SendKey,
+    /// Send the plain picture with this opaque value.
+    SendOpaque(u64),
     /// Send a plain picture of this size, in place of the settings' size.
     SendSize {
         /// Its width, 1 to 64.
@@ -182,6 +184,9 @@ fn calls_of_one(word: &[u8], text: &[u8]) -> Option<Line>
 {
     if is(word, "send") {
         return some_calls(Action::Send, number(text)?);
+    }
+    if is(word, "sendopaque") {
+        return some_calls(Action::SendOpaque(number(text)?), 1);
     }
     if is(word, "receive") {
         return some_calls(Action::Receive, number(text)?);

@@ -1,60 +1,40 @@
 mod answer_lines;
+mod bad_lines;
+mod call_lines;
 mod setting_lines;
 
 use super::*;
+use std::alloc::Global;
 use std::test::Fail;
 
-// A script, and the first of its lines that is no script line; 0 for none.
-const LINES: [(&[u8], u64); 36] = [
-    (b"", 0),
-    (b"x", 1),
-    (b"x\n", 1),
-    (b"send  2\n", 1),
-    (b"send\t2\n", 1),
-    (b"send\r\n", 1),
-    (b" send\n", 1),
-    (b"send \n", 1),
-    (b" \n", 1),
-    (b" # no comment\n", 1),
-    (b"# a comment \xff\t\r\n\nsend\n", 0),
-    (b"\xff\n", 1),
-    (b"send +2\n", 1),
-    (b"send -2\n", 1),
-    (b"send 0\n", 1),
-    (b"send 00000000000000000002\n", 0),
-    (b"send 000000000000000000002\n", 1),
-    (b"keyint 0 18446744073709551615\n", 0),
-    (b"keyint 0 18446744073709551616\n", 1),
-    (b"rdo 99999999999999999999\n", 1),
-    (b"rdo 1\nrdo 1\n", 2),
-    (b"size 64 80\n\nsize 64 80\n", 3),
-    (b"size 64 80\nkeyint 0 5\nrdo 1\nkeyint 0 5\n", 4),
-    (b"send\nrdo 1\n", 2),
-    (b"flush\nkeyint 1 2\n", 2),
-    (b"send\nreceive\nflush\n", 0),
-    (b"flush\nreceive 2\nsend\n", 0),
-    (b"send 100000\n", 0),
-    (b"send 100001\n", 1),
-    (b"send 100000\n# full\nflush\n", 3),
-    (b"send 99999\nflush\nflush\n", 3),
-    (b"send 18446744073709551615\n", 1),
-    (b"size 64\n", 1),
-    (b"size 64 80 1\n", 1),
-    (b"sendkey 2\n", 1),
-    (b"gop 2\n", 1),
-];
-
-#[test]
-fn first_bad_line_is_named(rt: HostRuntime) -> Result<(), Fail> {
-    for (script, bad) in LINES {
-        let wanted = if bad == 0 {
-            None
-        } else {
-            Some(ScriptError::BadLine(bad))
-        };
-        assert_eq!(rt; parse(rt.alloc(), script).err(), wanted, "{script:?}");
+// The first of these texts that is a script.
+fn first_read<'a>(alloc: Global, texts: &[&'a str]) -> Option<&'a str> {
+    for text in texts {
+        if parse(alloc, text.as_bytes()).is_ok() {
+            return Some(*text);
+        }
     }
-    Ok(())
+    None
+}
+
+// The first of these texts that is no script.
+fn first_refused<'a>(alloc: Global, texts: &[&'a str]) -> Option<&'a str> {
+    for text in texts {
+        if parse(alloc, text.as_bytes()).is_err() {
+            return Some(*text);
+        }
+    }
+    None
+}
+
+// The first of these texts whose first bad line has another number.
+fn first_other<'a>(alloc: Global, texts: &[&'a str], line: u64) -> Option<&'a str> {
+    for text in texts {
+        if parse(alloc, text.as_bytes()).err() != Some(ScriptError::BadLine(line)) {
+            return Some(*text);
+        }
+    }
+    None
 }
 
 #[test]

@@ -1,3 +1,4 @@
+use super::{first_other, first_read};
 use crate::{Print, parse};
 use std::test::Fail;
 
@@ -18,8 +19,8 @@ fn answers_may_be_repeated(rt: HostRuntime) -> Result<(), Fail> {
 }
 
 #[test]
-fn other_answers_are_no_lines(rt: HostRuntime) -> Result<(), Fail> {
-    for line in [
+fn other_answers_are_no_lines(rt: HostRuntime) {
+    let lines = [
         "cut",
         "cut -1",
         "cut 1 2",
@@ -28,18 +29,30 @@ fn other_answers_are_no_lines(rt: HostRuntime) -> Result<(), Fail> {
         "bytes 1 0",
         "bytes 1 4097",
         "bytes 1 2 3",
+    ];
+    assert_eq!(rt; first_read(rt.alloc(), &lines), None);
+}
+
+#[test]
+fn faults_and_prints_have_their_words(rt: HostRuntime) {
+    let lines = [
         "fault",
         "print",
         "print ",
         "print byte",
         "print bytes 1",
         "print bytes\nprint bytes",
+    ];
+    assert_eq!(rt; first_read(rt.alloc(), &lines), None);
+}
+
+#[test]
+fn answers_stand_before_the_calls(rt: HostRuntime) {
+    let lines = [
         "send\ncut 1",
         "flush\nbytes 1 1",
         "flush\nfault 1",
         "flush\nprint bytes",
-    ] {
-        assert!(rt; parse(rt.alloc(), line.as_bytes()).is_err(), "{line}");
-    }
-    Ok(())
+    ];
+    assert_eq!(rt; first_other(rt.alloc(), &lines, 2), None);
 }

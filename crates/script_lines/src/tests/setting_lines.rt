@@ -1,3 +1,4 @@
+use super::first_read;
 use crate::{Script, Setting, parse};
 use av1_frame::ChromaSampling;
 use pass_stats::{RateControlError, Why};
@@ -30,8 +31,8 @@ fn numbers_fit_their_settings(rt: HostRuntime) -> Result<(), Fail> {
 }
 
 #[test]
-fn other_words_are_no_settings(rt: HostRuntime) -> Result<(), Fail> {
-    for line in [
+fn other_words_are_no_settings(rt: HostRuntime) {
+    let lines = [
         "preset",
         "preset 256",
         "preset -1",
@@ -40,39 +41,45 @@ fn other_words_are_no_settings(rt: HostRuntime) -> Result<(), Fail> {
         "aspect 1",
         "chroma 4200",
         "still 1",
+    ];
+    assert_eq!(rt; first_read(rt.alloc(), &lines), None);
+}
+
+#[test]
+fn levels_quantizers_and_delays_fit_their_bits(rt: HostRuntime) {
+    let lines = [
         "level 256",
         "minq 256",
         "reservoir +12",
         "reservoir 2147483648",
-    ] {
-        assert!(rt; of_line(rt.alloc(), line).is_none(), "{line}");
-    }
-    for line in [
+    ];
+    assert_eq!(rt; first_read(rt.alloc(), &lines), None);
+}
+
+#[test]
+fn a_summary_has_pairs_of_digits(rt: HostRuntime) {
+    let lines = [
         "summary",
         "summary ",
         "summary 5",
         "summary 5A",
         "summary 0x56",
         "summary 56 41",
-    ] {
-        assert!(rt; of_line(rt.alloc(), line).is_none(), "{line}");
-    }
-    Ok(())
+    ];
+    assert_eq!(rt; first_read(rt.alloc(), &lines), None);
 }
 
 #[test]
-fn each_setting_stands_once_and_before_the_calls(rt: HostRuntime) -> Result<(), Fail> {
-    for script in [
+fn each_setting_stands_once_and_before_the_calls(rt: HostRuntime) {
+    let scripts = [
         "preset 1\npreset 1\n",
         "level 1\nlevel 2\n",
         "still\n\nstill\n",
         "summary 56\nsummary 56\n",
         "flush\ntiming\n",
         "flush\nsummary 56\n",
-    ] {
-        assert!(rt; of_line(rt.alloc(), script).is_none(), "{script}");
-    }
-    Ok(())
+    ];
+    assert_eq!(rt; first_read(rt.alloc(), &scripts), None);
 }
 
 #[test]
