@@ -1,12 +1,12 @@
 -- The calls that a script asks for, by value.
-use Rattle.std.specs.Prelude.{ℕ, ◌*◌, Bool, true, false, Option, None, replicate}
+use Rattle.std.specs.Prelude.{ℕ, ◌*◌, Bool, true, false, Option, None, Some, replicate}
 use Rattle.av1_frame.specs.declared.frame.Plane.{Plane}
 use Rattle.av1_frame.specs.declared.frame.Frame.{Frame}
 use Rattle.av1_frame.specs.declared.sampling.ChromaSampling.{ChromaSampling}
 use Rattle.av1_frame.specs.Sizes.{chroma_size}
 use Rattle.av1_settings.specs.declared.encoder.EncoderConfig.{EncoderConfig}
 use Rattle.script_lines.specs.declared.line.Action.{Action}
-use Rattle.script_lines.specs.declared.line.Action.TheVariants.{Send as SendAction, SendKey, SendSize, Flush as FlushAction, Receive as ReceiveAction}
+use Rattle.script_lines.specs.declared.line.Action.TheVariants.{Send as SendAction, SendKey, SendOpaque, SendSize, Flush as FlushAction, Receive as ReceiveAction}
 use Rattle.session_core.specs.declared.call.Call.{Call}
 use Rattle.session_core.specs.declared.call.Call.TheVariants.{Send, Flush, Receive}
 use Rattle.session_core.specs.Turns.{asks_key, opaque_of}
@@ -39,10 +39,12 @@ plain_picture width height sampling = record {
 abbrev pub own_picture : EncoderConfig → Frame ℕ
 own_picture enc = plain_picture enc.width enc.height enc.chroma_sampling
 
--- what a line of a script asks for; no value is sent with a frame, and one of another size has the settings' sampling
+-- what a line of a script asks for: a frame has the opaque value that its line gives, else none, and one of another size
+-- has the settings' sampling
 abbrev pub asked_for : EncoderConfig → Action → Asked
 asked_for enc SendAction = Sends (own_picture enc) false None
 asked_for enc SendKey = Sends (own_picture enc) true None
+asked_for enc (SendOpaque value) = Sends (own_picture enc) false (Some value)
 asked_for enc (SendSize width height) = Sends (plain_picture width height enc.chroma_sampling) false None
 asked_for enc FlushAction = Flushes
 asked_for enc ReceiveAction = Receives

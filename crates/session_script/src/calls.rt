@@ -58,6 +58,13 @@ fn session_call(
             let picture = plain_picture(alloc, width, height, enc.chroma_sampling)?;
             Ok(Call::Send(picture, None))
         }
+        Action::SendOpaque(value) => Ok(Call::Send(
+            shared_picture(alloc, enc, picture)?,
+            Some(FrameParameters {
+                frame_type_override: FrameTypeOverride::No,
+                opaque: Some(value),
+            }),
+        )),
         Action::Flush => Ok(Call::Flush),
         Action::Receive => Ok(Call::Receive),
     }

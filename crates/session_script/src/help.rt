@@ -56,6 +56,7 @@ marked *:
 Calls, at most 100000 in all, with an N of at least 1:
   send, send N        sends one frame, or N
   sendkey             sends one frame as a key frame
+  sendopaque V        sends one frame with V, which comes back with its packet
   sendsize W H        sends one frame of W by H samples, each 1 to 64, which is
                       refused where the frames have another size
   flush               says that no further frame comes
@@ -144,6 +145,7 @@ pub const HELP_LINES: &[&str] = &[
     "Calls, at most 100000 in all, with an N of at least 1:",
     "  send, send N        sends one frame, or N",
     "  sendkey             sends one frame as a key frame",
+    "  sendopaque V        sends one frame with V, which comes back with its packet",
     "  sendsize W H        sends one frame of W by H samples, each 1 to 64, which is",
     "                      refused where the frames have another size",
     "  flush               says that no further frame comes",

@@ -1,5 +1,6 @@
 mod detector_and_faults;
 mod low_latency;
+mod opaque_values;
 mod receives_anywhere;
 mod receives_behind_the_flush;
 mod setting_lines;
