@@ -1,5 +1,5 @@
 -- The calls that a script asks for, by value.
-use Rattle.std.specs.Prelude.{ℕ, ◌*◌, Bool, true, false, Option, None, Some, replicate}
+use Rattle.std.specs.Prelude.{ℕ, ◌*◌, Bool, true, false, Option, None, Some, replicate, []}
 use Rattle.av1_frame.specs.declared.frame.Plane.{Plane}
 use Rattle.av1_frame.specs.declared.frame.Frame.{Frame}
 use Rattle.av1_frame.specs.declared.sampling.ChromaSampling.{ChromaSampling}
@@ -9,17 +9,17 @@ use Rattle.script_lines.specs.declared.line.Action.{Action}
 use Rattle.script_lines.specs.declared.line.Action.TheVariants.{Send as SendAction, SendKey, SendOpaque, SendSize, Flush as FlushAction, Receive as ReceiveAction}
 use Rattle.session_core.specs.declared.call.Call.{Call}
 use Rattle.session_core.specs.declared.call.Call.TheVariants.{Send, Flush, Receive}
-use Rattle.session_core.specs.Turns.{asks_key, opaque_of}
+use Rattle.session_core.specs.Moments.{Accepted}
+use Rattle.session_core.specs.Turns.{accepted_of}
 
--- what a call asks for: to send a frame with this picture, as a key frame or not, with this opaque value; to flush; to
--- receive
+-- what a call asks for: to send a frame, with what is sent with it; to flush; to receive
 pub data Asked : Type 0 where
-  Sends : Frame ℕ → Bool → Option ℕ → Asked
+  Sends : Accepted ℕ ℕ → Asked
   Flushes : Asked
   Receives : Asked
 
 abbrev pub asked_by : Call ℕ ℕ → Asked
-asked_by (Send frame parameters) = Sends frame.value (asks_key parameters) (opaque_of parameters)
+asked_by (Send frame parameters) = Sends (accepted_of frame.value parameters)
 asked_by Flush = Flushes
 asked_by Receive = Receives
 
@@ -39,12 +39,18 @@ plain_picture width height sampling = record {
 abbrev pub own_picture : EncoderConfig → Frame ℕ
 own_picture enc = plain_picture enc.width enc.height enc.chroma_sampling
 
+-- a frame with this picture, as a key frame or not, with this opaque value, and without metadata
+abbrev pub frame_of : Frame ℕ → Bool → Option ℕ → Accepted ℕ ℕ
+frame_of picture forced opaque =
+    record { picture = picture; forced = forced; opaque = opaque; t35 = [] }
+
 -- what a line of a script asks for: a frame has the opaque value that its line gives, else none, and one of another size
 -- has the settings' sampling
 abbrev pub asked_for : EncoderConfig → Action → Asked
-asked_for enc SendAction = Sends (own_picture enc) false None
-asked_for enc SendKey = Sends (own_picture enc) true None
-asked_for enc (SendOpaque value) = Sends (own_picture enc) false (Some value)
-asked_for enc (SendSize width height) = Sends (plain_picture width height enc.chroma_sampling) false None
+asked_for enc SendAction = Sends (frame_of (own_picture enc) false None)
+asked_for enc SendKey = Sends (frame_of (own_picture enc) true None)
+asked_for enc (SendOpaque value) = Sends (frame_of (own_picture enc) false (Some value))
+asked_for enc (SendSize width height) =
+    Sends (frame_of (plain_picture width height enc.chroma_sampling) false None)
 asked_for enc FlushAction = Flushes
 asked_for enc ReceiveAction = Receives

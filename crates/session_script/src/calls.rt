@@ -5,7 +5,7 @@ use av1_frame::{ChromaSampling, Frame};
 use av1_settings::EncoderConfig;
 use coding_base::OutOfMemory;
 use script_lines::Action;
-use session_core::{Call, FrameParameters, FrameTypeOverride};
+use session_core::{Call, FrameParameters, FrameTypeOverride, T35List};
 use std::alloc::Global;
 use std::sync::Arc;
 
@@ -51,6 +51,7 @@ fn session_call(
             Some(FrameParameters {
                 frame_type_override: FrameTypeOverride::Key,
                 opaque: None,
+                t35_metadata: T35List::new(alloc),
             }),
         )),
         Action::SendSize { width, height } => {
@@ -63,6 +64,7 @@ fn session_call(
             Some(FrameParameters {
                 frame_type_override: FrameTypeOverride::No,
                 opaque: Some(value),
+                t35_metadata: T35List::new(alloc),
             }),
         )),
         Action::Flush => Ok(Call::Flush),

@@ -1,5 +1,5 @@
 use super::*;
-use av1_settings::{EncoderStatus, FrameType};
+use av1_settings::{EncoderStats, EncoderStatus, FrameType};
 use coding_base::{Bytes, Sequence};
 use pyramid::{Command, Refs};
 use session_core::{LogEntry, LogList, Packet, Reply, Turn};
@@ -105,9 +105,11 @@ fn a_packet_stands_behind_its_commands(rt: HostRuntime) -> Result<(), Fail> {
     })?;
     let packet = Packet {
         bytes,
+        rec: None,
         source: None,
         input_frameno: 4,
         frame_type: FrameType::INTER,
+        enc_stats: EncoderStats::default(),
         opaque: None,
     };
     let turns = turn(alloc, Reply::Packet(packet), log)?;

@@ -1,6 +1,5 @@
-use Rattle.std.proofs.Common.{◌∙◌, Some, ap}
-use Rattle.scripted.proofs.Countdown.{none_given}
+use Rattle.scripted.proofs.Countdown.{first-told}
 use Rattle.scripted.proofs.coder.ScriptedCoder.with_rules.Goals as goal
 
-pub returns-clause-fails_after : goal.returns-clause-fails_after
-returns-clause-fails_after c = none_given c.first_fault.result _ c.new.ensures ∙ ap Some c.first_fault.ensures
+pub returns : goal.returns
+returns c = first-told _ _ _ _ _ c.new.ensures c.in_ok-from_slice.ensures c.first_fault.ensures
