@@ -22,8 +22,8 @@ use Rattle.session_core.specs.Contexts.{Session, GivesDone, GivesReply, IsAnswer
 use Rattle.session_core.specs.Held.{IsHeld, IsReached, Leads}
 use Rattle.session_core.specs.Moments.{Moment, opening}
 use Rattle.session_core.specs.States.{moment_of, IsReady, KeepsKeys}
-use Rattle.session_core.specs.Steps.{Fails, IsStep, WhereRefused}
-use Rattle.session_core.specs.Told.{Heard}
+use Rattle.session_core.specs.Steps.{Fails, IsStep, Unused, WhereRefused}
+use Rattle.session_core.specs.Told.{Heard, IsLater}
 use Rattle.session_core.specs.Turns.{held_back, is_showing, IsNextPacket, IsTurn, CodesNext, OnlyReplies}
 use Rattle.session_core.proofs.CallLoop.{leads-ready, leads-step}
 
@@ -100,12 +100,16 @@ refused-map (Status NotReady) f holds = f holds
 refused-map (Status FrameSizeMismatch) f holds = f holds
 refused-map (Status NoMemory) f holds = f holds
 
+pub session-same : {T O D C : Type 0} (enc : EncoderConfig) (state after : SessionState T O) (failure : Option SessionFault) (d e : D) (c f : C) →
+    after ≡ state → e ≡ d → f ≡ c → session_of enc after failure e f ≡ session_of enc state failure d c
+session-same enc state after failure d e c f states detectors coders = rw (states, detectors, coders) refl
+
 -- a call that a turn of the state answers
 pub call-of-turn : {T O D C : Type 0} (enc : EncoderConfig) (state after : SessionState T O) (failure : Option SessionFault) (d e : D) (c f : C) (call : Call T O) (turn : Turn T O)
     (told now : Heard T) → failure ≡ None → IsStep enc call turn (moment_of state) (moment_of after) told now →
-    WhereRefused turn.reply ((after ≡ state) × (e ≡ d) × (f ≡ c)) →
+    WhereRefused turn.reply ((after ≡ state) × (e ≡ d) × (f ≡ c)) → Unused call (e ≡ d) (f ≡ c) → IsLater told now →
     IsCall GivesReply call (session_of enc state failure d c) (session_of enc after failure e f) told now (Ok turn.reply)
-call-of-turn {T} {O} {D} {C} enc state after failure d e c f call turn told now none step refused =
+call-of-turn {T} {O} {D} {C} enc state after failure d e c f call turn told now none step refused unused later =
     call-answered GivesReply call (session_of enc state failure d c) (session_of enc after failure e f) told now (Ok turn.reply) none (record {
       turn = turn;
       step = step;
@@ -113,10 +117,29 @@ call-of-turn {T} {O} {D} {C} enc state after failure d e c f call turn told now 
       settings = refl;
       unfailed = none;
       refused = refused-map turn.reply same refused;
+      unused = unused;
+      later = later;
     })
   where
     same : (after ≡ state) × (e ≡ d) × (f ≡ c) → session_of enc after failure e f ≡ session_of enc state failure d c
-    same (states, detectors, coders) = rw (states, detectors, coders) refl
+    same (states, detectors, coders) = session-same enc state after failure d e c f states detectors coders
+
+-- a call that failed
+pub call-of-fault : {T O D C : Type 0} (enc : EncoderConfig) (state after : SessionState T O) (failure : Option SessionFault) (d e : D) (c f : C) (call : Call T O) (fault : SessionFault)
+    (status : EncoderStatus) (told now : Heard T) → failure ≡ None → status ≡ status_of fault → Fails enc call (moment_of state) told now fault →
+    ((number : ℕ) → fault ≡ Coder number → after ≡ state) → Unused call (e ≡ d) (f ≡ c) → IsLater told now →
+    IsCall GivesReply call (session_of enc state failure d c) (session_of enc after (Some fault) e f) told now (Err status)
+call-of-fault {T} {O} {D} {C} enc state after failure d e c f call fault status told now none is fails stays unused later =
+    call-failed GivesReply call (session_of enc state failure d c) (session_of enc after (Some fault) e f) told now (Err status) none (record {
+      fault = fault;
+      fails = fails;
+      status = ap Err is;
+      settings = refl;
+      kept = refl;
+      stays = λ number at. ap moment_of (stays number at);
+      unused = unused;
+      later = later;
+    })
 
 -- an answer made of a reply
 module _ {T O D C A : Type 0} (Gives : Reply T O → Result A EncoderStatus → Type 0) (call : Call T O) (before after : Session T O D C) (told now : Heard T)
@@ -136,6 +159,8 @@ module _ {T O D C A : Type 0} (Gives : Reply T O → Result A EncoderStatus → 
     settings = answered.settings;
     unfailed = answered.unfailed;
     refused = answered.refused;
+    unused = answered.unused;
+    later = answered.later;
   })
   by_failure None (inr failed) = inr (record {
     fault = failed.fault;
@@ -143,6 +168,9 @@ module _ {T O D C A : Type 0} (Gives : Reply T O → Result A EncoderStatus → 
     status = of_status _ failed.status;
     settings = failed.settings;
     kept = failed.kept;
+    stays = failed.stays;
+    unused = failed.unused;
+    later = failed.later;
   })
   by_failure (Some fault) (refused, same) = (of_status Failure refused, same)
 
@@ -155,17 +183,30 @@ none-of (Some a) is = cc
 
 -- neither a send nor a flush is failed by the coder
 runs-out : {T O D C A : Type 0} (picture : Option (Frame T)) (parameters : Option (FrameParameters O)) (call : Call T O) (before after : Session T O D C) (told now : Heard T) (result : Result A EncoderStatus) →
-    Asks picture parameters call → IsFailed call before after told now result → RunsOut before after result
+    Asks picture parameters call → IsFailed call before after told now result → RunsOut before after told now result
 runs-out {T} {O} {D} {C} {A} picture parameters call before after told now result asks failed = by_fault failed.fault failed.fails failed.status failed.kept
   where
     not-receive : (picture : Option (Frame T)) → Asks picture parameters Receive → ⊥
     not-receive None asks = cc
     not-receive (Some one) asks = asks
 
+    coder_same : (picture : Option (Frame T)) (call : Call T O) → Asks picture parameters call → Unused call (after.detector ≡ before.detector) (after.coder ≡ before.coder) →
+        after.coder ≡ before.coder
+    coder_same None call asks unused = subst (λ (c : Call T O). Unused c (after.detector ≡ before.detector) (after.coder ≡ before.coder)) asks unused
+    coder_same (Some one) (Send frame given) asks unused = unused
+    coder_same (Some one) Flush asks unused = absurd asks
+    coder_same (Some one) Receive asks unused = absurd asks
+
     by_fault : (fault : SessionFault) → Fails before.enc call before.moment told now fault → result ≡ Err (status_of fault) → after.failure ≡ Some fault →
-        RunsOut before after result
+        RunsOut before after told now result
     by_fault (Coder number) fails status kept = absurd (not-receive picture (subst (Asks picture parameters) fails.0 asks))
-    by_fault OutOfMemory fails status kept = record { status = status; settings = failed.settings; kept = kept }
+    by_fault OutOfMemory fails status kept = record {
+      status = status;
+      settings = failed.settings;
+      kept = kept;
+      unused = coder_same picture call asks failed.unused;
+      later = failed.later;
+    }
 
 pub send-of : {T O D C A : Type 0} (picture : Option (Frame T)) (parameters : Option (FrameParameters O)) (call : Call T O) (before after : Session T O D C) (told now : Heard T) (result : Result A EncoderStatus) →
     Asks picture parameters call → IsCall GivesDone call before after told now result → IsSend picture parameters before after told now result
@@ -174,7 +215,7 @@ send-of {T} {O} {D} {C} {A} picture parameters call before after told now result
     SendOf : Option SessionFault → Type 0
     SendOf failure =
         MatchOption failure
-        (((call : Call T O) × Asks picture parameters call × IsAnswered GivesDone call before after told now result) ⊎ RunsOut before after result)
+        (((call : Call T O) × Asks picture parameters call × IsAnswered GivesDone call before after told now result) ⊎ RunsOut before after told now result)
         (λ fault. (result ≡ Err Failure) × (after ≡ before))
 
     by_failure : (failure : Option SessionFault) → CallOf GivesDone call before after told now result failure → SendOf failure

@@ -1,5 +1,5 @@
 -- What contracts see of a context, and what one call of it does.
-use Rattle.std.specs.Prelude.{◌≡◌, ◌⊎◌, ⊤, ◌||◌, Bool, pos, int_lt, MatchOption, Option, None, Some, Result, Ok, Err, IsOk}
+use Rattle.std.specs.Prelude.{◌≡◌, ℕ, ◌⊎◌, ⊤, ◌||◌, Bool, pos, int_lt, MatchOption, Option, None, Some, Result, Ok, Err, IsOk}
 use Rattle.av1_frame.specs.declared.frame.Frame.{Frame}
 use Rattle.av1_settings.specs.Checks.{asks_passes}
 use Rattle.av1_settings.specs.declared.config.Config.{Config}
@@ -16,8 +16,8 @@ use Rattle.session_core.specs.declared.transcript.Reply.{Reply}
 use Rattle.session_core.specs.declared.transcript.Reply.TheVariants.{Sent, Flushed, Packet as GivesPacket, Status}
 use Rattle.session_core.specs.declared.transcript.Turn.{Turn}
 use Rattle.session_core.specs.Moments.{Moment, opening}
-use Rattle.session_core.specs.Steps.{Fails, IsStep, WhereRefused}
-use Rattle.session_core.specs.Told.{Heard}
+use Rattle.session_core.specs.Steps.{Fails, IsStep, Unused, WhereRefused}
+use Rattle.session_core.specs.Told.{Heard, IsLater}
 
 -- the settings, the session's moment, the cause of the first call that failed, if one did, and those outside it
 pub record Session (T O D C : Type 0) : Type 0 where
@@ -66,14 +66,20 @@ pub record IsAnswered {T O D C A : Type 0} (Gives : Reply T O → Result A Encod
   pub settings : after.enc ≡ before.enc
   pub unfailed : after.failure ≡ None
   pub refused : WhereRefused turn.reply (after ≡ before)
+  pub unused : Unused call (after.detector ≡ before.detector) (after.coder ≡ before.coder)
+  pub later : IsLater told now
 
--- a call that failed, and the session with it: its cause is kept
+-- a call that failed, and the session with it: its cause is kept. A fault of the coder leaves the moment as it was; where
+-- memory ran out the moment may be any on the way to that after the call
 pub record IsFailed {T O D C A : Type 0} (call : Call T O) (before after : Session T O D C) (told now : Heard T) (result : Result A EncoderStatus) : Type 0 where
   pub fault : SessionFault
   pub fails : Fails before.enc call before.moment told now fault
   pub status : result ≡ Err (status_of fault)
   pub settings : after.enc ≡ before.enc
   pub kept : after.failure ≡ Some fault
+  pub stays : (number : ℕ) → fault ≡ Coder number → after.moment ≡ before.moment
+  pub unused : Unused call (after.detector ≡ before.detector) (after.coder ≡ before.coder)
+  pub later : IsLater told now
 
 -- any call: in a session that has failed it fails, and nothing changes
 abbrev pub IsCall : {T O D C A : Type 0} → (Reply T O → Result A EncoderStatus → Type 0) → Call T O → Session T O D C → Session T O D C → Heard T → Heard T → Result A EncoderStatus → Type 0
@@ -88,18 +94,20 @@ Asks None parameters call = call ≡ Flush
 Asks (Some picture) parameters (Send frame given) = (frame.value ≡ picture) × (given ≡ parameters)
 Asks (Some picture) parameters call = ⊥
 
--- memory ran out, and the session failed
-pub record RunsOut {T O D C A : Type 0} (before after : Session T O D C) (result : Result A EncoderStatus) : Type 0 where
+-- memory ran out in a send, and the session failed
+pub record RunsOut {T O D C A : Type 0} (before after : Session T O D C) (told now : Heard T) (result : Result A EncoderStatus) : Type 0 where
   pub status : result ≡ Err NoMemory
   pub settings : after.enc ≡ before.enc
   pub kept : after.failure ≡ Some OutOfMemory
+  pub unused : after.coder ≡ before.coder
+  pub later : IsLater told now
 
 -- a send of this picture with these parameters, or a flush where there is none
 abbrev pub IsSend : {T O D C A : Type 0} → Option (Frame T) → Option (FrameParameters O) → Session T O D C → Session T O D C → Heard T → Heard T → Result A EncoderStatus → Type 0
 IsSend {T} {O} picture parameters before after told now result =
     MatchOption before.failure
     (((call : Call T O) × Asks picture parameters call × IsAnswered GivesDone call before after told now result)
-    ⊎ RunsOut before after result)
+    ⊎ RunsOut before after told now result)
     (λ fault. (result ≡ Err Failure) × (after ≡ before))
 
 -- whether a configuration asks for what sessions don't follow yet: pass data, a summary, or a bitrate

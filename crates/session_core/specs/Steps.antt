@@ -26,6 +26,11 @@ WhereRefused (Status Encoded) Holds = ⊤
 WhereRefused (Status status) Holds = Holds
 WhereRefused reply Holds = ⊤
 
+-- of the two that a session is lent, a receive doesn't use the detector, and any other call doesn't use the coder
+abbrev pub Unused : {T O : Type 0} → Call T O → Type 0 → Type 0 → Type 0
+Unused Receive OfDetector OfCoder = OfDetector
+Unused call OfDetector OfCoder = OfCoder
+
 -- a call: its reply and what it coded, the moment after it, and what was told of it
 pub record IsStep {T O : Type 0} (enc : EncoderConfig) (call : Call T O) (turn : Turn T O) (before after : Moment T O) (told now : Heard T) : Type 0 where
   -- the reply table

@@ -1,4 +1,4 @@
-ghost use Rattle.std.specs.Prelude.{◌≡◌, None, Some, Err, IfOk, IsOk, IsTrue, false};
+ghost use Rattle.std.specs.Prelude.{◌≡◌, None, Some, Err, IfOk, IsOk, IsTrue, false, true};
 ghost use Rattle.av1_frame.specs.Planes.{IsFilled};
 ghost use Rattle.av1_frame.specs.Sizes.{chroma_size};
 ghost use Rattle.av1_settings.specs.declared.config.Config.{Config as Settings};
@@ -72,6 +72,9 @@ impl<T: Pixel, O: Drop, D: Detector<T> + Drop, C: FrameCoder<T> + Drop> Context<
         ensures call { IsCall GivesDone Flush self.old self.new
             (heard (C.told self.old.coder) (D.told self.old.detector))
             (heard (C.told self.new.coder) (D.told self.new.detector)) result }
+        ensures again { self.old.failure ≡ None
+            → self.old.moment.flushed ≡ true
+            → IsOk result × (self.new ≡ self.old) }
     {
         self.inner.flush(alloc)
     }

@@ -1,11 +1,12 @@
 // A session that is called one call at a time.
-ghost use Rattle.std.specs.Prelude.{◌≡◌, ◌&&◌, ◌||◌, not, nat_lt, None, Some, Err, IfOk, IfErr, IsOk, IsSome, IsTrue, false, is_none};
+ghost use Rattle.std.specs.Prelude.{◌≡◌, ◌&&◌, ◌||◌, not, nat_lt, None, Some, Ok, Err, true, IfOk, IfErr, IsOk, IsSome, IsTrue, false, is_none};
 ghost use Rattle.av1_frame.specs.Planes.{IsFilled};
 ghost use Rattle.av1_frame.specs.Sizes.{chroma_size};
 ghost use Rattle.av1_settings.specs.declared.invalid.InvalidConfig.{InvalidConfig};
 ghost use Rattle.av1_settings.specs.Checks.{pixel_refusal};
 ghost use Rattle.av1_settings.specs.Header.{container_sequence_header};
 ghost use Rattle.session_core.specs.declared.call.Call.TheVariants.{Flush, Receive};
+ghost use Rattle.session_core.specs.declared.transcript.Reply.TheVariants.{Flushed};
 ghost use Rattle.session_core.specs.declared.setup.SetupError.TheVariants.{Invalid, Unbuilt};
 ghost use Rattle.session_core.specs.Contexts.{GivesDone, GivesReceived, GivesReply, IsCall, IsReceiveReply, IsSend, asks_unbuilt, fresh, Asks};
 ghost use Rattle.std.specs.Option.{option_map};
@@ -123,6 +124,9 @@ impl<T: Pixel, O: Drop, D: Detector<T> + Drop, C: FrameCoder<T> + Drop> ContextI
         ensures call { IsCall GivesDone Flush self.old self.new
             (heard (C.told self.old.coder) (D.told self.old.detector))
             (heard (C.told self.new.coder) (D.told self.new.detector)) result }
+        ensures again { self.old.failure ≡ None
+            → self.old.moment.flushed ≡ true
+            → IsOk result × (self.new ≡ self.old) }
     {
         done(self.call(alloc, Call::Flush))
     }
@@ -145,6 +149,10 @@ impl<T: Pixel, O: Drop, D: Detector<T> + Drop, C: FrameCoder<T> + Drop> ContextI
         ensures call { IsCall GivesReply call self.old self.new
             (heard (C.told self.old.coder) (D.told self.old.detector))
             (heard (C.told self.new.coder) (D.told self.new.detector)) result }
+        ensures again { call ≡ Flush
+            → self.old.failure ≡ None
+            → self.old.moment.flushed ≡ true
+            → (result ≡ Ok Flushed) × (self.new ≡ self.old) }
     {
         if self.failure.is_some() {
             return Err(EncoderStatus::Failure);

@@ -1,5 +1,6 @@
 // What a receive does to a session: whether it codes, and which command.
-ghost use Rattle.std.specs.Prelude.{◌≡◌, ◌≤◌, ◌<◌, IfOk, IfErr, OnOk, Some, length};
+ghost use Rattle.std.specs.Prelude.{◌≡◌, ◌≤◌, ◌<◌, ℕ, Err, IfOk, IfErr, OnOk, Some, length};
+ghost use Rattle.session_core.specs.declared.fault.SessionFault.TheVariants.{Coder};
 ghost use Rattle.std.specs.List.{flat_map, slice_get};
 ghost use Rattle.session_core.specs.declared.call.Call.TheVariants.{Receive};
 ghost use Rattle.session_core.specs.Moments.{is_complete, plan_at};
@@ -41,6 +42,7 @@ impl<T: Drop, O: Drop> SessionState<T, O> {
         ensures counted { IfOk result (λ turn.
             Counts (C.told coder.old).fails_after (C.told coder.new).fails_after
             (length turn.log)) }
+        ensures stays { (number : ℕ) → result ≡ Err (Coder number) → self.new ≡ self.old }
         ensures failed { IfErr result (λ fault.
             FailsReceiving enc.now (moment_of self.old) (C.told coder.old) (C.told coder.new)
             fault) }

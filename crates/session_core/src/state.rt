@@ -1,10 +1,12 @@
 // The state of a session, and what a send and a flush do to it.
-ghost use Rattle.std.specs.Prelude.{◌≡◌, IfOk, IfErr, OnOk};
+ghost use Rattle.std.specs.Prelude.{◌≡◌, ℕ, true, Ok, Err, IfOk, IfErr, IsOk, OnOk};
+ghost use Rattle.session_core.specs.declared.call.Call.TheVariants.{Flush};
+ghost use Rattle.session_core.specs.declared.fault.SessionFault.TheVariants.{Coder};
 ghost use Rattle.session_core.specs.declared.transcript.Reply.TheVariants.{Flushed};
 ghost use Rattle.session_core.specs.Moments.{opening};
 ghost use Rattle.session_core.specs.Questions.{IsAskedIn};
 ghost use Rattle.session_core.specs.States.{moment_of, IsReady, KeepsKeys};
-ghost use Rattle.session_core.specs.Steps.{Fails, IsStep, WhereRefused};
+ghost use Rattle.session_core.specs.Steps.{Fails, IsStep, Unused, WhereRefused};
 ghost use Rattle.session_core.specs.Told.{heard, IsDetectorLater, IsLater};
 ghost use Rattle.session_core.specs.Turns.{Decides, accepted_of, after_flush, after_send, has_enough, sent_reply};
 
@@ -81,11 +83,17 @@ impl<T: Drop, O: Drop> SessionState<T, O> {
         ensures refused { IfOk result (λ turn.
             WhereRefused turn.reply ((self.new ≡ self.old)
             × (detector.new ≡ detector.old) × (coder.new ≡ coder.old))) }
+        ensures unused { Unused call (detector.new ≡ detector.old) (coder.new ≡ coder.old) }
         ensures keys { OnOk result (KeepsKeys self.new) }
+        ensures stays { (number : ℕ) → result ≡ Err (Coder number) → self.new ≡ self.old }
         ensures failed { IfErr result (λ fault.
             Fails enc.now call (moment_of self.old)
             (heard (C.told coder.old) (D.told detector.old))
             (heard (C.told coder.new) (D.told detector.new)) fault) }
+        ensures again { call ≡ Flush
+            → self.old.flushed ≡ true
+            → IfOk result (λ turn. turn.reply ≡ Flushed) × IsOk result
+            × (self.new ≡ self.old) × (detector.new ≡ detector.old) }
         ensures later { IsLater (heard (C.told coder.old) (D.told detector.old))
             (heard (C.told coder.new) (D.told detector.new)) }
     {
@@ -176,8 +184,13 @@ impl<T: Drop, O: Drop> SessionState<T, O> {
         ensures asked { OnOk result (IsAskedIn enc.now (moment_of self.old)
             (moment_of self.new) (D.told detector.old).questions
             (D.told detector.new).questions (D.told detector.old).answers) }
+        ensures again { self.old.flushed ≡ true
+            → (result ≡ Ok Flushed) × (self.new ≡ self.old) × (detector.new ≡ detector.old) }
         ensures later { IsDetectorLater (D.told detector.old) (D.told detector.new) }
     {
+        if self.flushed {
+            return Ok(Reply::Flushed);
+        }
         self.flushed = true;
         let last = self.accepted.saturating_sub(1);
         self.decide(

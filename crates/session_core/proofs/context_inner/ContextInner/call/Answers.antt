@@ -1,7 +1,7 @@
-use Rattle.std.proofs.Common.{◌≡◌, None, Ok, sym, subst}
+use Rattle.std.proofs.Common.{◌≡◌, true, None, Some, Ok, Err, ap, sym, ◌∙◌, subst}
 use Rattle.session_core.specs.Contexts.{Session, GivesReply, IsCall}
 use Rattle.session_core.specs.Told.{heard}
-use Rattle.session_core.proofs.Calling.{call-of-turn, held-ready, held-step, none-of, session_of}
+use Rattle.session_core.proofs.Calling.{call-of-fault, call-of-turn, held-ready, held-step, none-of, session-same, session_of}
 use Rattle.session_core.proofs.context_inner.ContextInner.call.Given as given
 use Rattle.session_core.proofs.context_inner.ContextInner.call.Goals as goal
 
@@ -24,5 +24,28 @@ returns-in-Ok g c =
     record {
       call = subst Calls c.self.view_is
           (call-of-turn inside.enc inside.state c.turn-turn.new.self inside.failure inside.detector c.turn-turn.new.detector inside.coder c.turn-turn.new.coder
-          c.args.call c.in-Ok.turn _ _ (none-of _ (sym c.if-is_some.ensures)) c.in-Ok.ensures.step c.in-Ok.ensures.refused);
+          c.args.call c.in-Ok.turn _ _ (none-of _ (sym c.if-is_some.ensures)) c.in-Ok.ensures.step c.in-Ok.ensures.refused
+          c.turn-turn.ensures.unused c.turn-turn.ensures.later);
+      again = λ flush none flushed.
+          let was : inside.state.flushed ≡ true = ap (λ (s : Session g.row.T.Denot g.row.O.Denot g.row.D.Denot g.row.C.Denot). s.moment.flushed) c.self.view_is ∙ flushed in
+          let same = c.in-Ok.ensures.again flush was in
+          let coder : c.turn-turn.new.coder ≡ inside.coder = rw flush at c.turn-turn.ensures.unused in (
+            ap Ok same.0,
+            session-same inside.enc inside.state c.turn-turn.new.self inside.failure inside.detector c.turn-turn.new.detector inside.coder c.turn-turn.new.coder
+                same.2 same.3 coder ∙ c.self.view_is,
+          );
     }
+
+pub returns-in-Err-clause-call : goal.returns-in-Err-clause-call
+returns-in-Err-clause-call g c =
+    let inside = c.self.inside in
+    let after : Session g.row.T.Denot g.row.O.Denot g.row.D.Denot g.row.C.Denot =
+    session_of inside.enc c.turn-turn.new.self (Some c.in-Err.fault) c.turn-turn.new.detector c.turn-turn.new.coder in
+    let Calls : Session g.row.T.Denot g.row.O.Denot g.row.D.Denot g.row.C.Denot → Type 0 = λ before.
+    IsCall GivesReply c.args.call before after
+    (heard (g.C.FrameCoder.told before.coder) (g.D.Detector.told before.detector))
+    (heard (g.C.FrameCoder.told after.coder) (g.D.Detector.told after.detector)) (Err c.status.result) in
+    subst Calls c.self.view_is
+    (call-of-fault inside.enc inside.state c.turn-turn.new.self inside.failure inside.detector c.turn-turn.new.detector inside.coder c.turn-turn.new.coder
+    c.args.call c.in-Err.fault c.status.result _ _ (none-of _ (sym c.if-is_some.ensures)) c.status.ensures c.in-Err.ensures.failed
+    (λ number at. c.turn-turn.ensures.stays number (c.in-Err.is ∙ ap Err at)) c.turn-turn.ensures.unused c.turn-turn.ensures.later)

@@ -1,6 +1,6 @@
 use Rattle.std.proofs.Common.{refl, true}
 use Rattle.session_core.specs.States.{moment_of}
-use Rattle.session_core.proofs.Deciding.{Made, made-of, made-decides, made-all, made-asked}
+use Rattle.session_core.proofs.Deciding.{Made, asked-none, made-of, made-decides, made-all, made-asked}
 use Rattle.session_core.proofs.state.SessionState.flush.Given as given
 use Rattle.session_core.proofs.state.SessionState.flush.Goals as goal
 
@@ -17,3 +17,6 @@ returns-clause-decides g c = made-decides c.args.enc.now _ _ _ _ _ _ (made g c)
 
 pub returns-clause-asked : goal.returns-clause-asked
 returns-clause-asked g c = made-asked c.args.enc.now _ _ _ _ _ _ (made g c)
+
+pub returns-then-self-clause-asked : goal.returns-then-self-clause-asked
+returns-then-self-clause-asked g c = asked-none c.args.enc.now _ _ _ _ refl

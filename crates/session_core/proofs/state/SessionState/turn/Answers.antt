@@ -77,3 +77,18 @@ returns-clause-later g c =
 
 pub returns-in_err-reply-in-Send-clause-later : goal.returns-in_err-reply-in-Send-clause-later
 returns-in_err-reply-in-Send-clause-later g c = record { coder = coder-same _; detector = c.send.ensures.later }
+
+pub returns-in_err-reply-in-Send-clause-unused : goal.returns-in_err-reply-in-Send-clause-unused
+returns-in_err-reply-in-Send-clause-unused g c = rw c.in-Send.is refl
+
+pub returns-in_err-reply-in-Flush-clause-unused : goal.returns-in_err-reply-in-Flush-clause-unused
+returns-in_err-reply-in-Flush-clause-unused g c = rw c.in-Flush.is refl
+
+pub returns-in-Receive-clause-unused : goal.returns-in-Receive-clause-unused
+returns-in-Receive-clause-unused g c = rw c.in-Receive.is refl
+
+pub returns-clause-unused : goal.returns-clause-unused
+returns-clause-unused g c = elim c.match-call.branch [
+  | in-Send+in_ok-reply-in-Send w ↦ rw w.in-Send.is refl
+  | in-Flush+in_ok-reply-in-Flush w ↦ rw w.in-Flush.is refl
+]
