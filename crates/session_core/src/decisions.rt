@@ -89,8 +89,9 @@ impl<T: Drop, O: Drop> SessionState<T, O> {
         requires keys { KeepsKeys self.now }
         requires in_order { AreInOrder self.now.decisions.items }
         ensures key { IfOk result (λ key. IsTrue forced → IsTrue key) }
-        ensures asked { IfOk result (λ key. Grew (D.told detector.old).questions
-            (D.told detector.new).questions (question mode (frames_from (moment_of self.now)) self.now.decisions.items
+        ensures asked { IfOk result (λ key.
+            Grew (D.told detector.old).questions (D.told detector.new).questions
+            (question mode (frames_from (moment_of self.now)) self.now.decisions.items
             (record { position = position; forced = forced; key = key }))) }
         ensures ahead { IfOk result (λ key. AreAnswered (D.told detector.old).answers
             (record { position = position; forced = forced; key = key } ∷ [])) }
