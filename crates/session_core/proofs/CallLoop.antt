@@ -30,7 +30,7 @@ use Rattle.session_core.specs.Moments.{Moment, opening, plan_at}
 use Rattle.session_core.specs.Questions.{AreAnswered, IsAsked, questions, questions_in}
 use Rattle.session_core.specs.Sessions.{AreTurns, AreKeyDecisions, Headline, IsSessionRun, KeepsSchedule, moment_after, accepted_in, commands_of, entries_of, handed_entries, packets_of}
 use Rattle.session_core.specs.States.{moment_of, IsReady, KeepsKeys}
-use Rattle.session_core.specs.Steps.{Fails, IsStep}
+use Rattle.session_core.specs.Steps.{AreSteps, Fails, IsStep}
 use Rattle.session_core.specs.Taken.{IsTaken, handed_at, packet_of}
 use Rattle.session_core.specs.Told.{Counts, DetectorTold, FailsBehind, Grew, Handed, Heard, IsLater}
 use Rattle.session_core.specs.Turns.{BeginTrials, IsTurn, after_receive, after_turn}
@@ -44,6 +44,7 @@ use Rattle.session_core.proofs.Telling.{answered-append, answered-none, counts-f
 -- of their decisions
 pub record Carried {T O : Type 0} (enc : EncoderConfig) (done : List (Call T O)) (turns : List (Turn T O)) (state : SessionState T O) (before now : Heard T) : Type 0 where
   pub leads : Leads enc done turns (moment_of state)
+  pub steps : AreSteps enc done turns opening (moment_of state) before now
   pub keys : KeepsKeys state
   pub taken : IsTaken (handed_turns enc state.decisions.items opening done turns) (entries_of turns) (packets_of turns) before.coder now.coder
   pub counted : Counts before.coder.fails_after now.coder.fails_after (length (entries_of turns))
@@ -55,6 +56,7 @@ pub carried-opening : {T O : Type 0} (enc : EncoderConfig) (turns : List (Turn T
 carried-opening {T} {O} enc turns state heard none opened keys =
     subst (λ (t : List (Turn T O)). Carried {T = T} {O = O} enc [] t state heard heard) (sym none) (record {
       leads = record { answered = tt; leads = opened };
+      steps = (opened, refl);
       keys = keys;
       taken = taken-none heard.coder;
       counted = counts-none heard.coder.fails_after;
@@ -123,6 +125,17 @@ module _ {T O : Type 0} (enc : EncoderConfig) (done : List (Call T O)) (turns : 
   pub handed-kept : handed_turns enc whole opening done turns ≡ handed_turns enc before.decisions opening done turns
   handed-kept = ap (λ (d : List Decision). handed_turns enc d opening done turns) (sym grown) ∙ widen-handed enc before.decisions done turns new led.answered
 
+-- one more step
+steps-push : {T O : Type 0} (enc : EncoderConfig) (done : List (Call T O)) (turns : List (Turn T O)) (call : Call T O) (turn : Turn T O)
+    (before middle after : Moment T O) (told now then : Heard T) → AreSteps enc done turns before middle told now → IsStep enc call turn middle after now then →
+    AreSteps enc (done ++ call ∷ []) (turns ++ turn ∷ []) before after told then
+steps-push {T} {O} enc [] [] call turn before middle after told now then (same, silent) step =
+    (after, then, subst₂ (λ (m : Moment T O) (h : Heard T). IsStep enc call turn m after h then) same silent step, (refl, refl))
+steps-push enc [] (other ∷ turns) call turn before middle after told now then steps step = absurd steps
+steps-push enc (first ∷ done) [] call turn before middle after told now then steps step = absurd steps
+steps-push enc (first ∷ done) (other ∷ turns) call turn before middle after told now then (next, heard, one, rest) step =
+    (next, heard, one, steps-push enc done turns call turn next middle after heard now then rest step)
+
 -- one more call
 pub carried-step : {T O : Type 0} (enc : EncoderConfig) (done : List (Call T O)) (turns all : List (Turn T O)) (state after : SessionState T O)
     (before now then : Heard T) (call : Call T O) (turn : Turn T O) → 1 ≤ enc.speed_settings.rdo_lookahead_frames →
@@ -131,6 +144,7 @@ pub carried-step : {T O : Type 0} (enc : EncoderConfig) (done : List (Call T O))
 carried-step {T} {O} enc done turns all state after before now then call turn looks carried step keys later put =
     subst (λ (t : List (Turn T O)). Carried enc (done ++ call ∷ []) t after before then) (sym put) (record {
       leads = leads-step enc done turns was is call turn carried.leads step.answered step.moment;
+      steps = steps-push enc done turns call turn opening was is before now then carried.steps step;
       keys = keys;
       taken = taken;
       counted = subst (Counts before.coder.fails_after then.coder.fails_after) (sym (ap (λ (l : List LogEntry). length l) entries ∙ length-append (entries_of turns) turn.log))
@@ -231,6 +245,13 @@ carried-session {T} {O} enc calls transcript state before now carried same = rec
 
     decided : decisions ≡ (moment_after enc decisions calls turns).decisions
     decided = ap (λ (m : Moment T O). m.decisions) carried.leads.leads
+
+pub carried-steps : {T O : Type 0} (enc : EncoderConfig) (calls : List (Call T O)) (transcript : Transcript T O) (state : SessionState T O) (before now : Heard T) →
+    Carried enc calls transcript.turns state before now → transcript.decisions ≡ state.decisions.items →
+    AreSteps enc calls transcript.turns opening (moment_after enc transcript.decisions calls transcript.turns) before now
+carried-steps {T} {O} enc calls transcript state before now carried same =
+    subst (λ (m : Moment T O). AreSteps enc calls transcript.turns opening m before now)
+    (carried.leads.leads ∙ ap (λ (d : List Decision). moment_after enc d calls transcript.turns) (sym same)) carried.steps
 
 pub session-schedule : {T O : Type 0} (enc : EncoderConfig) (calls : List (Call T O)) (transcript : Transcript T O) (before now : Heard T) →
     IsSessionRun enc calls transcript before now → KeepsSchedule enc calls transcript

@@ -1,5 +1,5 @@
 -- What one call of a session does, and how it fails; a session is as many of these as it has calls, however they come.
-use Rattle.std.specs.Prelude.{◌≡◌, ⊤, ℕ, [], List, length}
+use Rattle.std.specs.Prelude.{◌≡◌, ⊤, ℕ, [], ◌∷◌, List, length}
 use Rattle.std.specs.List.{flat_map}
 use Rattle.coding_base.specs.Faults.{Rose}
 use Rattle.av1_settings.specs.declared.encoder.EncoderConfig.{EncoderConfig}
@@ -41,6 +41,15 @@ pub record IsStep {T O : Type 0} (enc : EncoderConfig) (call : Call T O) (turn :
   pub counted : Counts told.coder.fails_after now.coder.fails_after (length turn.log)
   -- what the detector was asked
   pub asked : IsAskedIn enc before after told.detector.questions now.detector.questions told.detector.answers
+
+-- calls one after another, each a step from the moment that the one before leaves, and of what was told by then
+abbrev pub AreSteps : {T O : Type 0} → EncoderConfig → List (Call T O) → List (Turn T O) →
+    Moment T O → Moment T O → Heard T → Heard T → Type 0
+AreSteps enc [] [] before after told now = (after ≡ before) × (now ≡ told)
+AreSteps {T} {O} enc (call ∷ calls) (turn ∷ turns) before after told now =
+    (next : Moment T O) × (then : Heard T) × IsStep enc call turn before next told then
+    × AreSteps enc calls turns next after then now
+AreSteps enc calls turns before after told now = ⊥
 
 -- the coder failed in the receive that codes the command of this number, behind what it took of the tries for it
 pub record IsCoderFault {T O : Type 0} (enc : EncoderConfig) (before : Moment T O) (told now : CoderTold T) (number : ℕ) : Type 0 where

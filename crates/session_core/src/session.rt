@@ -4,7 +4,9 @@ ghost use Rattle.av1_settings.specs.declared.invalid.InvalidConfig.{InvalidConfi
 ghost use Rattle.av1_settings.specs.Checks.{session_refusal};
 ghost use Rattle.session_core.specs.declared.session.SessionError.TheVariants.{Invalid, CoderFault, Unbuilt};
 ghost use Rattle.session_core.specs.Answers.{FailsAt};
-ghost use Rattle.session_core.specs.Sessions.{IsSessionRun, KeepsSchedule};
+ghost use Rattle.session_core.specs.Moments.{opening};
+ghost use Rattle.session_core.specs.Sessions.{IsSessionRun, KeepsSchedule, moment_after};
+ghost use Rattle.session_core.specs.Steps.{AreSteps};
 ghost use Rattle.session_core.specs.Told.{heard, IsLater};
 
 use crate::state::SessionState;
@@ -101,6 +103,13 @@ pub fn run_session<T: Pixel, O: Drop, D: Detector<T>, C: FrameCoder<T>>(
     // The headline, and what stands beside it.
     ensures session { IfOk result (λ t.
         IsSessionRun cfg.now.enc calls.items t
+        (heard (C.told coder.old) (D.told detector.old))
+        (heard (C.told coder.new) (D.told detector.new))) }
+
+    // It is made of steps, each as one call of a context is.
+    ensures steps { IfOk result (λ t.
+        AreSteps cfg.now.enc calls.items t.turns opening
+        (moment_after cfg.now.enc t.decisions calls.items t.turns)
         (heard (C.told coder.old) (D.told detector.old))
         (heard (C.told coder.new) (D.told detector.new))) }
 

@@ -3,7 +3,7 @@ use Rattle.std.proofs.lemmas.Int.{ints}
 use Rattle.std.proofs.lemmas.List.{nil_from_length}
 use Rattle.session_core.specs.Answers.{error_of}
 use Rattle.session_core.specs.Sessions.{IsSessionRun}
-use Rattle.session_core.proofs.CallLoop.{Carried, Stops, carried-opening, carried-step, leads-ready, carried-session, session-schedule, carried-stop}
+use Rattle.session_core.proofs.CallLoop.{Carried, Stops, carried-opening, carried-step, leads-ready, carried-session, carried-steps, session-schedule, carried-stop}
 use Rattle.session_core.proofs.Telling.{later-then}
 use Rattle.session_core.proofs.session.run_session.Given as given
 use Rattle.session_core.proofs.session.run_session.Invariants.{outside}
@@ -83,18 +83,30 @@ all_done g c =
     let none : c.loop-call.call-iterator.rest.items ≡ [] = nil_from_length _ (omega (arith, c.in-None.ensures.steps.0)) in
     sym (append-nil c.loop-call.yielded) ∙ ap (λ rest. c.loop-call.yielded ++ rest) (sym none) ∙ c.loop-call.invariant.3
 
-run : (g : given.Over) (c : goal.After-drop-state-4 g) →
-    IsSessionRun c.args.cfg.now.enc c.args.calls.items (record { turns = c.from_vec.result; decisions = c.from_vec-2.result })
+-- what the loop kept, of all calls and the transcript's turns
+kept : (g : given.Over) (c : goal.After-drop-state-4 g) →
+    Carried c.args.cfg.now.enc c.args.calls.items c.from_vec.result c.loop-call.state
     (outside g c.args.coder.now c.args.detector.now) (outside g c.loop-call.coder c.loop-call.detector)
-run g c =
+kept g c =
     let enc = c.args.cfg.now.enc in
     let calls = c.args.calls.items in
     let state = c.loop-call.state in
     let before = outside g c.args.coder.now c.args.detector.now in
     let now = outside g c.loop-call.coder c.loop-call.detector in
     let all = subst (λ done. Carried enc done c.loop-call.turns.items state before now) (all_done g c) c.loop-call.invariant.2 in
-    let listed = subst (λ turns. Carried enc calls turns state before now) (sym c.from_vec.ensures) all in
-    carried-session enc calls (record { turns = c.from_vec.result; decisions = c.from_vec-2.result }) state before now listed c.from_vec-2.ensures
+    subst (λ turns. Carried enc calls turns state before now) (sym c.from_vec.ensures) all
+
+run : (g : given.Over) (c : goal.After-drop-state-4 g) →
+    IsSessionRun c.args.cfg.now.enc c.args.calls.items (record { turns = c.from_vec.result; decisions = c.from_vec-2.result })
+    (outside g c.args.coder.now c.args.detector.now) (outside g c.loop-call.coder c.loop-call.detector)
+run g c =
+    carried-session c.args.cfg.now.enc c.args.calls.items (record { turns = c.from_vec.result; decisions = c.from_vec-2.result }) c.loop-call.state _ _
+    (kept g c) c.from_vec-2.ensures
+
+pub returns-clause-steps : goal.returns-clause-steps
+returns-clause-steps g c =
+    carried-steps c.args.cfg.now.enc c.args.calls.items (record { turns = c.from_vec.result; decisions = c.from_vec-2.result }) c.loop-call.state _ _
+    (kept g c) c.from_vec-2.ensures
 
 pub returns-clause-session : goal.returns-clause-session
 returns-clause-session g c = run g c
