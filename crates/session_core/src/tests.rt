@@ -3,6 +3,8 @@ ghost use Rattle.std.specs.Prelude.{None};
 ghost use Rattle.coding_base.specs.Faults.{HasCause};
 ghost use Rattle.session_core.specs.declared.coder.CoderError.TheVariants.{Failed};
 
+mod contexts;
+
 use super::*;
 use av1_frame::{ChromaSampling, Frame};
 use av1_settings::{
