@@ -1,7 +1,7 @@
 -- Products of signed numbers.
-use Rattle.std.proofs.Common.{◌≡◌, ℕ, zero, suc, ◌+◌, ◌/◌, refl, ◌≤ℤ◌, ◌<ℤ◌, int_div, neg_ℤ, ◌*◌, ◌≤◌, ◌<◌, ◌^◌, arith, ℤ, pos, negsuc, ◌*ℤ◌, unsigned_abs, FitsSigned}
-use Rattle.std.specs.Int.{w128, int_min}
-use Rattle.std.proofs.lemmas.Int.{ints, clamps, unsigned_abs-mul}
+use Rattle.std.proofs.Common.{◌≡◌, ℕ, zero, suc, ◌+◌, ◌/◌, refl, ◌≤ℤ◌, int_div, neg_ℤ, ◌*◌, ◌≤◌, ◌<◌, ◌^◌, arith, ℤ, pos, negsuc, ◌*ℤ◌, unsigned_abs, FitsSigned}
+use Rattle.std.specs.Int.{w128}
+use Rattle.std.proofs.lemmas.Int.{ints, unsigned_abs-mul}
 use Rattle.std.proofs.Math.Nat.{mul-le-mul_left}
 use Rattle.std.proofs.lemmas.Nat.{mul-le, div_below}
 use Rattle.fixed_log.specs.Within.{IsWithin}
@@ -42,17 +42,3 @@ quotient_within a (pos b) m k p above h =
     within_abs (int_div a (pos b)) m
     (rw (abs_quot a b) (quotient_small (unsigned_abs a) b m k (omega (arith, ints)) (omega (arith, ints)) (abs_within a (m * k) h)))
 quotient_within a (negsuc b) m k p above h = absurd (omega (arith, ints))
-
-pub product_positive : (a b : ℤ) → pos 1 ≤ℤ a → pos 1 ≤ℤ b → pos 1 ≤ℤ (a *ℤ b)
-product_positive (pos a) (pos b) h k = let least = mul-le 1 1 a b (omega (arith, ints)) (omega (arith, ints)) in omega (arith, ints)
-product_positive (negsuc a) b h k = absurd (omega (arith, ints))
-product_positive (pos a) (negsuc b) h k = absurd (omega (arith, ints))
-
--- the lesser of two numbers over the first of them, of scale 2^32
-pub part_within : (part whole : ℤ) → pos 0 <ℤ part → pos 1 ≤ℤ whole → IsWithin (2 ^ 32) (int_div (int_min whole part *ℤ pos (2 ^ 32)) whole)
-part_within part (pos k) p q =
-    let least : pos 0 ≤ℤ int_min (pos k) part = omega (arith, ints, clamps) in
-    let most : int_min (pos k) part ≤ℤ pos k = omega (arith, ints, clamps) in
-    quotient_within (int_min (pos k) part *ℤ pos (2 ^ 32)) (pos k) (2 ^ 32) k q (omega (arith, ints))
-    (record { low = omega (arith, ints); high = omega (arith, ints) })
-part_within part (negsuc k) p q = absurd (omega (arith, ints))

@@ -132,6 +132,21 @@ impl SubtypeState {
         q24_to_q57(self.filter.last())
     }
 
+    /// The same in Q24.
+    pub fn last_answer(&self) -> i32
+        ensures { result ≡ self.now.filter.y0 }
+    {
+        self.filter.last()
+    }
+
+    /// Sets the exponent, as the summary of a first pass tells it.
+    pub fn set_exponent(&mut self, exponent: u8)
+        requires { 1 ≤ exponent }
+        ensures { self.new ≡ record self.old { exponent = exponent } }
+    {
+        self.exponent = exponent;
+    }
+
     /// The bits that are to be expected of a frame.
     pub fn estimate(&self, log_npixels: i64, power: i128) -> i64
         requires { IsWithin (2 ^ 67) power }
@@ -215,7 +230,7 @@ impl SubtypeState {
 
 impl SubtypeState {
     /// The scale that a frame of this subtype shows.
-    fn scale_of_frame(&self, log_npixels: i64, bits: i64, log_target: i64) -> i64
+    pub fn scale_of_frame(&self, log_npixels: i64, bits: i64, log_target: i64) -> i64
         ensures { result ≡ scale_of log_npixels bits (power_log_of log_target self.now.exponent) }
     {
         frame_scale(

@@ -14,22 +14,9 @@ use Rattle.ratecontrol.specs.declared.ahead.Ahead.{Ahead}
 use Rattle.rate_model.specs.Subtype.{subtype_at}
 use Rattle.ratecontrol.specs.Rate.{Rate}
 use Rattle.rate_model.specs.Search.{power_log}
+use Rattle.reservoir.specs.Powers.{near_previous, target_of_power}
 use Rattle.ratecontrol.specs.Ahead.{ahead_of_guess, searched}
-
--- how far the base may move from that of the coded frame before
-abbrev pub MOST_MOVE : ℕ
-MOST_MOVE = 0xA4_D3C2_5E68_DC58
-
-abbrev pub near_base : ℤ → ℤ → ℤ
-near_base previous q = int_min (int_max q (previous -ℤ pos MOST_MOVE)) (previous +ℤ pos MOST_MOVE)
-
-abbrev pub near_previous : Option ℤ → ℤ → ℤ
-near_previous None q = q
-near_previous (Some previous) q = near_base previous q
-
--- the quantiser whose power with the exponent has this logarithm
-abbrev pub target_of_power : ℤ → ℕ → ℤ
-target_of_power power exponent = saturate_signed w64 (int_div (power +ℤ pos (exponent / 2)) (pos exponent) *ℤ pos 64)
+use Rattle.ratecontrol.specs.SecondPass.{ahead_of_metrics}
 
 -- ---- a reservoir that runs over asks for more bits
 
@@ -121,8 +108,18 @@ unfoldable pub select_flat : QSettings → Tables → ℕ → ℤ → QuantizerP
 select_flat settings tables subtype mean_scale =
     parameters tables settings (flat tables settings.bit_depth settings.quantizer subtype) mean_scale (subtype == 0) None
 
-abbrev pub select : Rate → QSettings → Tables → (ℤ → Guess) → ℕ → Option ℤ → ℤ → QuantizerParameters
-select rate settings tables guess subtype previous mean_scale =
-    if int_lt (pos 0) rate.bitrate
-    then select_ahead rate settings tables (ahead_of_guess rate (guess rate.reservoir_delay) subtype) subtype previous mean_scale
+-- a first pass by itself: its base, and a mean scale of 0
+unfoldable pub select_first : Rate → QSettings → Tables → ℕ → QuantizerParameters
+select_first rate settings tables subtype =
+    parameters tables settings (record { base = rate.first_base; target = saturate_signed w64 (modulated rate.first_base subtype) }) (pos 0)
+    (subtype == 0) None
+
+-- a session with both passes goes by the second
+abbrev pub select : Rate → QSettings → Tables → (ℤ → Guess) → ℕ → ℕ → Option ℤ → ℤ → QuantizerParameters
+select rate settings tables guess gop_start subtype previous mean_scale =
+    if int_lt (pos 0) rate.bitrate then
+    (if rate.second
+    then select_ahead rate settings tables (ahead_of_metrics rate guess gop_start settings.max_key_frame_interval subtype) subtype previous mean_scale
+    else (if rate.first then select_first rate settings tables subtype
+    else select_ahead rate settings tables (ahead_of_guess rate (guess rate.reservoir_delay) subtype) subtype previous mean_scale))
     else select_flat settings tables subtype mean_scale

@@ -1,29 +1,30 @@
 -- The rate state at the start.
-use Rattle.std.specs.Prelude.{int_div, ℕ, ◌^◌, Option, Some, None, ℤ, pos, ◌+ℤ◌, ◌-ℤ◌, ◌*ℤ◌}
-use Rattle.std.specs.Int.{int_shr, int_min, int_max}
+use Rattle.std.specs.Prelude.{int_div, ℕ, false, [], ◌∷◌, Option, None, ℤ, pos, ◌*ℤ◌}
+use Rattle.std.specs.Int.{int_shr}
 use Rattle.fixed_log.specs.Logarithm.{blog64}
+use Rattle.metrics_window.specs.Tallies.{tally_of}
+use Rattle.pass_data.specs.Emitted.{Emitted}
+use Rattle.pass_data.specs.Given.{Given}
 use Rattle.rate_model.specs.Curves.{start_subtypes}
-use Rattle.ratecontrol.specs.Rate.{Rate, between}
+use Rattle.reservoir.specs.Levels.{bits_per_tu_of, reservoir_delay_of, reservoir_most, reservoir_target}
+use Rattle.ratecontrol.specs.Rate.{Rate}
 
--- the bits of a temporal unit, without the 16 that its delimiter takes
-abbrev pub bits_per_tu_of : ℤ → ℤ → ℤ → ℤ
-bits_per_tu_of bitrate framerate_num framerate_den =
-    between (pos 40) (pos (2 ^ 46)) (int_div (bitrate *ℤ framerate_den) framerate_num) -ℤ pos 16
+abbrev pub nothing_given : Given
+nothing_given = record {
+  bytes = [];
+  header = None;
+  left = tally_of [];
+  is_finite = false;
+  window = record { held = []; capacity = 0 };
+  next = None;
+}
 
--- over how many temporal units the reservoir is to be evened out
-abbrev pub reservoir_delay_of : Option ℤ → ℤ → ℤ
-reservoir_delay_of (Some delay) max_interval = delay
-reservoir_delay_of None max_interval = int_max (int_min (int_shr (pos 3 *ℤ max_interval) 1) (pos 240)) (pos 12)
+abbrev pub nothing_emitted : Emitted
+nothing_emitted = record { sums = pos 0 ∷ pos 0 ∷ pos 0 ∷ pos 0 ∷ []; tus = pos 0; waiting = None; is_summed_up = false }
 
--- the greatest reservoir, and half of it, rounded up
-abbrev pub reservoir_most : ℤ → ℤ → ℤ
-reservoir_most bits_per_tu delay = bits_per_tu *ℤ delay
-
-abbrev pub reservoir_target : ℤ → ℤ
-reservoir_target most = int_shr (most +ℤ pos 1) 1
-
-abbrev pub rate_from : ℤ → ℤ → ℤ → ℤ → Option ℕ → ℕ → Rate
-rate_from bitrate npixels bits_per_tu delay greatest least = record {
+-- one pass, until another is asked for
+abbrev pub rate_from : ℤ → ℤ → ℤ → ℤ → Option ℕ → ℕ → Option ℤ → Rate
+rate_from bitrate npixels bits_per_tu delay greatest least set_delay = record {
   bitrate = bitrate;
   bits_per_tu = bits_per_tu;
   reservoir_delay = delay;
@@ -39,8 +40,15 @@ rate_from bitrate npixels bits_per_tu delay greatest least = record {
   shown_again = pos 0;
   shows = pos 0;
   subtypes = start_subtypes (int_div npixels bits_per_tu);
+  set_delay = set_delay;
+  first = false;
+  second = false;
+  first_base = pos 0;
+  given = nothing_given;
+  emitted = nothing_emitted;
 }
 
 unfoldable pub start : ℤ → ℤ → ℤ → ℤ → ℤ → Option ℕ → ℕ → ℤ → Option ℤ → Rate
 start width height framerate_num framerate_den bitrate greatest least max_interval delay =
     rate_from bitrate (width *ℤ height) (bits_per_tu_of bitrate framerate_num framerate_den) (reservoir_delay_of delay max_interval) greatest least
+    delay

@@ -2,27 +2,17 @@
 use Rattle.std.specs.Prelude.{ℕ, ◌-◌, ◌^◌, nat_lt, Bool, not, ◌&&◌, slice_set, ℤ, pos, negsuc, ◌+ℤ◌, ◌-ℤ◌, int_lt, if◌then◌else◌}
 use Rattle.std.specs.Int.{int_min}
 use Rattle.std.specs.Ordering.{int_eq}
-use Rattle.rate_model.specs.Measure.{Entry, grown, LAST_I32, estimate_of, subtype_after}
+use Rattle.rate_model.specs.Measure.{Entry, grown, LAST_I32, estimate_of, scale_of, subtype_after}
 use Rattle.rate_model.specs.Subtype.{SubtypeRate, subtype_at}
-use Rattle.ratecontrol.specs.Rate.{Rate, between}
+use Rattle.fixed_log.specs.Conversion.{q57_to_q24}
+use Rattle.pass_stats.specs.declared.metrics.RCFrameMetrics.{RCFrameMetrics}
+use Rattle.pass_data.specs.Emitted.{with_waiting}
+use Rattle.pass_data.specs.Given.{coded}
+use Rattle.reservoir.specs.Moves.{LAST_COUNT, not_far, reservoir_after, coded_after}
+use Rattle.ratecontrol.specs.Rate.{Rate}
 use Rattle.rate_model.specs.Search.{power_log}
 
--- counts of frames stop here
-abbrev pub LAST_COUNT : ℤ
-LAST_COUNT = pos (2 ^ 62)
-
 -- ---- the reservoir and the bias
-
-abbrev pub FAR : ℕ
-FAR = 2 ^ 96
-
-abbrev pub not_far : ℤ → ℤ
-not_far z = between (negsuc (FAR - 1)) (pos FAR) z
-
--- the reservoir after a frame: it never holds more than it can
-abbrev pub reservoir_after : ℤ → ℤ → ℤ → Bool → ℤ → ℤ
-reservoir_after bits_per_tu most bits shown reservoir =
-    int_min (reservoir -ℤ bits +ℤ (if shown then bits_per_tu else pos 0)) most
 
 abbrev pub charged : ℤ → ℤ → Bool → Rate → Rate
 charged estimate bits shown rate = record rate {
@@ -39,10 +29,6 @@ expected log_npixels s e =
 
 abbrev pub estimate : Rate → Entry → ℤ
 estimate rate e = expected rate.log_npixels (subtype_at rate.subtypes e.subtype) e
-
--- neither trials nor frames without bits count
-abbrev pub coded_after : ℤ → Bool → ℤ → ℤ
-coded_after bits trial coded = if not trial && int_lt (pos 0) bits then grown LAST_COUNT coded else coded
 
 abbrev pub with_subtype : Entry → Rate → Rate
 with_subtype e rate = record rate {
@@ -65,9 +51,27 @@ after_show e rate =
 abbrev pub after : Entry → Rate → Rate
 after e rate = if nat_lt e.subtype 4 then after_frame e rate else after_show e rate
 
+-- ---- what the passes hand on
+
+-- the scale that a frame shows; the least number of 64 bits for shows, and for frames without bits
+abbrev pub scale_shown : Entry → Rate → ℤ
+scale_shown e rate =
+    if nat_lt e.subtype 4 && int_lt (pos 0) e.bits
+    then scale_of rate.log_npixels e.bits (power_log e.log_target (subtype_at rate.subtypes e.subtype).exponent) else negsuc (2 ^ 63 - 1)
+
+abbrev pub frame_data : Entry → Rate → RCFrameMetrics
+frame_data e rate = record { log_scale_q24 = q57_to_q24 (scale_shown e rate); fti = e.subtype; show_frame = e.shown }
+
+-- a first pass emits the frame's data, that of a trial too; in a second pass a frame that isn't a trial uses its metrics up
+abbrev pub with_frame_data : RCFrameMetrics → Bool → Rate → Rate
+with_frame_data m trial rate = record rate {
+  given = if rate.second && not trial then coded rate.given else rate.given;
+  emitted = if rate.first then with_waiting m rate.emitted else rate.emitted;
+}
+
 -- without a bitrate nothing is kept
 abbrev pub update : Entry → Rate → Rate
-update e rate = if int_lt (pos 0) rate.bitrate then after e rate else rate
+update e rate = if int_lt (pos 0) rate.bitrate then with_frame_data (frame_data e rate) e.trial (after e rate) else rate
 
 -- a coded frame without bits is dropped
 abbrev pub is_dropped : Entry → Rate → Bool

@@ -17,9 +17,9 @@ pub(crate) struct Ahead {
     /// How many frames of each subtype, and how many shows of coded frames.
     pub nframes: [i32; 5],
     /// For how many frames the bias is made up.
-    pub frames: i32,
+    pub frames: i64,
     /// How many temporal units.
-    pub tus: i32,
+    pub tus: i64,
     /// The logarithm of a subtype's bits for each pixel at quantiser 1.
     pub log_scale: [i64; 4],
     /// The same of the frame that is being coded.
@@ -63,8 +63,8 @@ impl RCState {
     {
         Ahead {
             nframes: guess.nframes,
-            frames: guess.frames,
-            tus: guess.tus,
+            frames: guess.frames as i64,
+            tus: guess.tus as i64,
             log_scale: self.log_scales(),
             current: self.subtypes[fti].current(),
         }
@@ -83,7 +83,7 @@ impl RCState {
     }
 
     /// The exponents of the subtypes.
-    fn exponents(&self) -> [u8; 4]
+    pub(crate) fn exponents(&self) -> [u8; 4]
         ensures { result ≡ map (λ (s : SubtypeRate). s.exponent) self.now.subtypes }
     {
         [

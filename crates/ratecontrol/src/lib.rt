@@ -1,13 +1,16 @@
-//! The rate controller: from a budget to a quantiser, and from a coded frame's bits to the next budget.
+//! The rate controller: from a budget to a quantiser, and from a coded frame's bits to the next budget, in one pass or in two. What passes
+//! hand on comes from `pass_data`, and the numbers of the reservoir from `reservoir`.
 //!
-//! All logarithms are binary and in Q57 where nothing else is said. No call takes memory.
+//! All logarithms are binary and in Q57 where nothing else is said. Memory is taken by the call alone that begins a second pass.
 #![tactic(auto)]
 
 mod ahead;
+mod first_pass;
 mod guess;
 pub mod laws;
+mod passes;
+mod second_pass;
 mod select;
-mod start;
 mod state;
 mod target;
 #[cfg(test)]
@@ -15,6 +18,7 @@ mod tests;
 mod update;
 
 pub use guess::{Guess, SubtypeGuess};
+pub use pass_data::PassDataError;
 pub use quantizers::{
     BadTable, FRAME_NSUBTYPES, FRAME_SUBTYPE_B0, FRAME_SUBTYPE_B1, FRAME_SUBTYPE_I,
     FRAME_SUBTYPE_P, FRAME_SUBTYPE_SEF, LogQuantizer, QSettings, QTables, QuantizerParameters,

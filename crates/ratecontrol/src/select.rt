@@ -2,16 +2,20 @@ ghost use Rattle.std.specs.Prelude.{◌≡◌, ℕ, ◌+◌, ◌*◌, ◌^◌, �
 ghost use Rattle.quantizers.specs.Tables.{Tables};
 ghost use Rattle.quantizers.specs.Flat.{flat};
 ghost use Rattle.quantizers.specs.Parameters.{parameters as parameters_of};
-ghost use Rattle.ratecontrol.specs.Select.{at_most as at_most_of, at_least as at_least_of, below_greatest as below_greatest_of, above_least as above_least_of, within_indices as within_indices_of, select_ahead as select_ahead_of, select_flat as select_flat_of, select};
+ghost use Rattle.ratecontrol.specs.Select.{at_most as at_most_of, at_least as at_least_of, below_greatest as below_greatest_of, above_least as above_least_of, within_indices as within_indices_of, select_ahead as select_ahead_of, select_flat as select_flat_of, select_first as select_first_of, select};
+ghost use Rattle.std.specs.Int.{saturate_signed, w64};
+ghost use Rattle.quantizers.specs.Subtypes.{modulated as modulated_of};
 ghost use Rattle.ratecontrol.specs.Ahead.{ahead_of_guess as ahead_of_guess_of};
+ghost use Rattle.ratecontrol.specs.SecondPass.{ahead_of_metrics as ahead_of_metrics_of};
 
 use crate::ahead::Ahead;
 use crate::guess::SubtypeGuess;
 use crate::state::RCState;
-use crate::target::near_previous;
 use quantizers::{
     FRAME_SUBTYPE_I, LogQuantizer, QSettings, QTables, QuantizerParameters, flat_quantizer,
+    modulated, saturated,
 };
+use reservoir::powers::near_previous;
 
 fn at_most(q: LogQuantizer, bound: LogQuantizer) -> LogQuantizer
     ensures { result ≡ at_most_of q bound }
@@ -92,6 +96,18 @@ fn select_flat(
     )
 }
 
+/// The parameters of a first pass by itself: those of its base.
+fn base_of_first_pass(base: i64, fti: usize) -> LogQuantizer
+    requires { fti < 4 }
+    ensures { result
+        ≡ record { base = base; target = saturate_signed w64 (modulated_of base fti) } }
+{
+    LogQuantizer {
+        base,
+        target: saturated(modulated(base, fti)),
+    }
+}
+
 impl RCState {
     /// The quantiser, kept within the indices that are set.
     fn within_indices(
@@ -146,10 +162,48 @@ impl RCState {
         )
     }
 
+    #[tactic(auto, unfolding(crate::specs::Select::select_first))]
+    fn select_first(
+        &self,
+        settings: &QSettings,
+        tables: &QTables,
+        fti: usize,
+    ) -> QuantizerParameters
+        requires fti { fti < 4 }
+        requires depth_least { 8 ≤ settings.now.bit_depth }
+        requires depth_most { settings.now.bit_depth ≤ 12 }
+        ensures { result ≡ select_first_of self.now settings.now tables.now fti }
+    {
+        QuantizerParameters::new_from_log_q(
+            tables,
+            settings,
+            base_of_first_pass(self.first_base, fti),
+            0,
+            fti == FRAME_SUBTYPE_I,
+            None,
+        )
+    }
+
+    /// What is ahead of the next frame: in a second pass by the metrics that are held, else by a guess.
+    fn ahead<G: SubtypeGuess>(&self, guess: &G, max_interval: i32, fti: usize) -> Ahead
+        requires { fti < 4 }
+        ensures { result ≡ (if self.now.second
+            then ahead_of_metrics_of self.now (G.guess guess.now) (G.gop_input_start guess.now)
+            max_interval fti
+            else ahead_of_guess_of self.now (G.guess guess.now self.now.reservoir_delay) fti) }
+    {
+        if self.second {
+            self.ahead_of_metrics(guess, max_interval, fti)
+        } else {
+            self.ahead_of_guess(&guess.guess(self.reservoir_delay), fti)
+        }
+    }
+
     /// The quantiser parameters of the next frame, of subtype 0 to 3.
     ///
     /// `prev` is the base of the coded frame before, and `mean_scale` the logarithm of the frame's mean distortion
-    /// scale in Q57, within 16 of 0. Without a bitrate the parameters are those of the index that is set.
+    /// scale in Q57, within 16 of 0. Without a bitrate the parameters are those of the index that is set. A first pass by itself
+    /// codes by its base alone. A second pass goes by the metrics that it was given.
     pub fn select_qi<G: SubtypeGuess>(
         &self,
         settings: &QSettings,
@@ -162,15 +216,16 @@ impl RCState {
         requires fti { fti < 4 }
         requires depth_least { 8 ≤ settings.now.bit_depth }
         requires depth_most { settings.now.bit_depth ≤ 12 }
-        ensures { result
-            ≡ select self.now settings.now tables.now (G.guess guess.now) fti prev mean_scale }
+        ensures { result ≡ select self.now settings.now tables.now (G.guess guess.now)
+            (G.gop_input_start guess.now) fti prev mean_scale }
     {
-        if self.is_controlled() {
-            let guess = guess.guess(self.reservoir_delay);
-            let ahead = self.ahead_of_guess(&guess, fti);
-            self.select_ahead(settings, tables, &ahead, fti, prev, mean_scale)
-        } else {
+        if !self.is_controlled() {
             select_flat(settings, tables, fti, mean_scale)
+        } else if self.first && !self.second {
+            self.select_first(settings, tables, fti)
+        } else {
+            let ahead = self.ahead(guess, settings.max_key_frame_interval, fti);
+            self.select_ahead(settings, tables, &ahead, fti, prev, mean_scale)
         }
     }
 }

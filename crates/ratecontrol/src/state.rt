@@ -5,18 +5,19 @@ ghost use Rattle.rate_model.specs.Subtype.{subtype_at};
 ghost use Rattle.ratecontrol.specs.Rate.{Rate, IsRate};
 ghost use Rattle.ratecontrol.specs.Start.{rate_from, start};
 
-use crate::start::{
+use fixed_log::blog64;
+use pass_data::{EmittedData, GivenData};
+use rate_model::{SubtypeState, start_subtypes};
+use reservoir::levels::{
     bits_per_tu, half_delay, pixels, pixels_per_bit, reservoir_delay, reservoir_most,
     reservoir_target,
 };
-use fixed_log::blog64;
-use rate_model::{SubtypeState, start_subtypes};
 use std::alloc::Global;
 use std::marker::Model;
 
 /// The state of a rate controller: the reservoir of bits, and for each frame subtype what its frames took. Contracts
 /// see it as a record (`Rate`).
-#[derive(Debug, Drop)]
+#[derive(Drop)]
 pub struct RCState {
     pub(crate) bitrate: i32,
     pub(crate) bits_per_tu: i64,
@@ -33,6 +34,13 @@ pub struct RCState {
     pub(crate) shown_again: i64,
     pub(crate) shows: i32,
     pub(crate) subtypes: [SubtypeState; 4],
+    pub(crate) alloc: Global,
+    pub(crate) set_delay: Option<i32>,
+    pub(crate) first: bool,
+    pub(crate) second: bool,
+    pub(crate) first_base: i64,
+    pub(crate) given: GivenData,
+    pub(crate) emitted: EmittedData,
 }
 
 impl Model for RCState {
@@ -56,6 +64,12 @@ impl Model for RCState {
       shown_again = s.shown_again;
       shows = s.shows;
       subtypes = s.subtypes;
+      set_delay = s.set_delay;
+      first = s.first;
+      second = s.second;
+      first_base = s.first_base;
+      given = s.given;
+      emitted = s.emitted;
     } };
 
     ghost invariant = { λ s. IsRate (record {
@@ -74,18 +88,24 @@ impl Model for RCState {
       shown_again = s.shown_again;
       shows = s.shows;
       subtypes = s.subtypes;
+      set_delay = s.set_delay;
+      first = s.first;
+      second = s.second;
+      first_base = s.first_base;
+      given = s.given;
+      emitted = s.emitted;
     }) };
 }
 
 impl RCState {
-    /// The state at the start of a session. No memory is taken.
+    /// The state at the start of a session with one pass. No memory is taken.
     ///
     /// The frame rate is `framerate_num / framerate_den` frames a second. The indices bound the quantisers; without
     /// `maybe_ac_qi_max` the reservoir bounds them. The bitrate is in bits a second; without a positive one nothing is
     /// controlled. The reservoir's delay is in temporal units.
     #[tactic(auto, unfolding(crate::specs::Start::start))]
     pub fn new(
-        _alloc: Global,
+        alloc: Global,
         frame_width: i32,
         frame_height: i32,
         framerate_num: i64,
@@ -108,21 +128,15 @@ impl RCState {
         let bits = bits_per_tu(target_bitrate, framerate_num, framerate_den);
         let delay = reservoir_delay(maybe_reservoir_frame_delay, max_key_frame_interval);
         state_from(
+            alloc,
             target_bitrate,
             pixels(frame_width, frame_height),
             bits,
             delay,
             maybe_ac_qi_max,
             ac_qi_min,
+            maybe_reservoir_frame_delay,
         )
-    }
-
-    /// Whether the next frame's data is there, and the last frame's was taken: in one pass, always.
-    pub fn ready(&self) -> bool
-        ensures { IsTrue result }
-    {
-        let _ = self;
-        true
     }
 
     /// The bits that the reservoir holds.
@@ -151,18 +165,21 @@ impl RCState {
 }
 
 fn state_from(
+    alloc: Global,
     bitrate: i32,
     npixels: i64,
     bits_per_tu: i64,
     delay: i32,
     greatest: Option<u8>,
     least: u8,
+    set_delay: Option<i32>,
 ) -> RCState
+    requires set { IfSome set_delay (λ delay. (pos 12 ≤ℤ delay) × (delay ≤ℤ pos (2 ^ 17))) }
     requires bits_low { pos 24 ≤ℤ bits_per_tu }
     requires bits_high { bits_per_tu ≤ℤ pos (2 ^ 46) }
     requires delay_low { pos 1 ≤ℤ delay }
     requires delay_high { delay ≤ℤ pos (2 ^ 17) }
-    ensures { result ≡ rate_from bitrate npixels bits_per_tu delay greatest least }
+    ensures { result ≡ rate_from bitrate npixels bits_per_tu delay greatest least set_delay }
 {
     let most = reservoir_most(bits_per_tu, delay);
     let target = reservoir_target(most);
@@ -182,5 +199,12 @@ fn state_from(
         shown_again: 0,
         shows: 0,
         subtypes: start_subtypes(pixels_per_bit(npixels, bits_per_tu)),
+        alloc,
+        set_delay,
+        first: false,
+        second: false,
+        first_base: 0,
+        given: GivenData::new(alloc),
+        emitted: EmittedData::new(),
     }
 }

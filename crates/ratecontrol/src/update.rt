@@ -3,97 +3,22 @@ ghost use Rattle.fixed_log.specs.Within.{IsWithin};
 ghost use Rattle.rate_model.specs.Subtype.{subtype_at};
 ghost use Rattle.rate_model.specs.Search.{power_log as power_log_of};
 ghost use Rattle.rate_model.specs.Measure.{entry, grown, LAST_I32, estimate_of};
-ghost use Rattle.ratecontrol.specs.Update.{LAST_COUNT, estimate as estimate_of_entry, not_far as not_far_of, reservoir_after as reservoir_after_of, charged, with_subtype, coded_after, after_frame, after_show, after, update, is_dropped};
+ghost use Rattle.fixed_log.specs.Conversion.{q57_to_q24 as q57_to_q24_of};
+ghost use Rattle.pass_stats.specs.declared.metrics.RCFrameMetrics.{RCFrameMetrics};
+ghost use Rattle.pass_data.specs.Emitted.{with_waiting};
+ghost use Rattle.pass_data.specs.Given.{coded};
+ghost use Rattle.reservoir.specs.Moves.{LAST_COUNT};
+ghost use Rattle.ratecontrol.specs.Update.{estimate as estimate_of_entry, charged, with_subtype, after_frame, after_show, after, scale_shown, frame_data, with_frame_data, update, is_dropped};
 
 use crate::state::RCState;
+use fixed_log::q57_to_q24;
+use pass_stats::RCFrameMetrics;
 use quantizers::FRAME_NSUBTYPES;
 use rate_model::power_log;
-
-/// How far from 0 the reservoir and the bias can get. No session reaches it.
-const FAR: i128 = 1 << 96;
-
-/// Where counts stop. No session reaches it.
-const LAST_COUNT: i64 = 1 << 62;
+use reservoir::moves::{next_bias, next_coded, next_count, next_reservoir};
 
 /// The bits that the show of a coded frame is expected to take.
 const SHOW_BITS: i64 = 24;
-
-fn not_far(z: i128) -> i128
-    ensures value { result ≡ not_far_of z }
-    ensures within { IsWithin (2 ^ 96) result }
-{
-    if z < -FAR {
-        -FAR
-    } else if z > FAR {
-        FAR
-    } else {
-        z
-    }
-}
-
-/// One more, up to the last count.
-fn next_count(n: i64) -> i64
-    requires { n ≤ℤ pos (2 ^ 62) }
-    ensures value { result ≡ grown (pos (2 ^ 62)) n }
-    ensures most { result ≤ℤ pos (2 ^ 62) }
-    ensures least { n ≤ℤ result }
-{
-    if n < LAST_COUNT { n + 1 } else { n }
-}
-
-/// The reservoir after a frame: it never holds more than it can.
-fn reservoir_after(bits_per_tu: i64, most: i128, bits: i64, shown: bool, reservoir: i128) -> i128
-    requires reservoir { IsWithin (2 ^ 96) reservoir }
-    ensures value { result ≡ reservoir_after_of bits_per_tu most bits shown reservoir }
-{
-    let refill = if shown { bits_per_tu } else { 0 };
-    refilled(reservoir, bits, refill).min(most)
-}
-
-fn refilled(reservoir: i128, bits: i64, refill: i64) -> i128
-    requires reservoir { IsWithin (2 ^ 96) reservoir }
-    ensures value { result ≡ reservoir -ℤ bits +ℤ refill }
-{
-    reservoir - bits as i128 + refill as i128
-}
-
-fn moved_bias(bias: i128, estimate: i64, bits: i64) -> i128
-    requires bias { IsWithin (2 ^ 96) bias }
-    ensures value { result ≡ bias +ℤ (estimate -ℤ bits) }
-{
-    bias + (estimate as i128 - bits as i128)
-}
-
-fn next_reservoir(bits_per_tu: i64, most: i128, bits: i64, shown: bool, reservoir: i128) -> i128
-    requires reservoir { IsWithin (2 ^ 96) reservoir }
-    ensures value { result ≡ not_far_of (reservoir_after_of bits_per_tu most bits shown reservoir) }
-    ensures within { IsWithin (2 ^ 96) result }
-{
-    not_far(reservoir_after(bits_per_tu, most, bits, shown, reservoir))
-}
-
-fn next_bias(bias: i128, estimate: i64, bits: i64) -> i128
-    requires bias { IsWithin (2 ^ 96) bias }
-    ensures value { result ≡ not_far_of (bias +ℤ (estimate -ℤ bits)) }
-    ensures within { IsWithin (2 ^ 96) result }
-{
-    not_far(moved_bias(bias, estimate, bits))
-}
-
-/// The count of coded frames after a frame: neither trials nor frames without bits count.
-fn next_coded(coded: i64, bits: i64, trial: bool) -> i64
-    requires low { pos 0 ≤ℤ coded }
-    requires high { coded ≤ℤ pos (2 ^ 62) }
-    ensures value { result ≡ coded_after bits trial coded }
-    ensures low { pos 0 ≤ℤ result }
-    ensures high { result ≤ℤ pos (2 ^ 62) }
-{
-    if !trial && bits > 0 {
-        next_count(coded)
-    } else {
-        coded
-    }
-}
 
 fn next_shows(shows: i32) -> i32
     ensures { result ≡ grown LAST_I32 shows }
@@ -211,6 +136,68 @@ impl RCState {
         self.bitrate > 0
     }
 
+    /// The scale that a frame shows, in Q57.
+    fn scale_shown(&self, bits: i64, fti: usize, shown: bool, log_target: i64, trial: bool) -> i64
+        ensures { result ≡ scale_shown (entry bits fti shown log_target trial) self.now }
+    {
+        let _ = (shown, trial);
+        if fti < FRAME_NSUBTYPES && bits > 0 {
+            self.subtypes[fti].scale_of_frame(self.log_npixels, bits, log_target)
+        } else {
+            i64::MIN
+        }
+    }
+
+    /// What a first pass tells of a frame.
+    fn frame_data(
+        &self,
+        bits: i64,
+        fti: usize,
+        shown: bool,
+        log_target: i64,
+        trial: bool,
+    ) -> RCFrameMetrics
+        requires { fti ≤ 4 }
+        ensures data { result ≡ frame_data (entry bits fti shown log_target trial) self.now }
+        ensures known { result.fti ≤ 4 }
+    {
+        RCFrameMetrics {
+            log_scale_q24: q57_to_q24(self.scale_shown(bits, fti, shown, log_target, trial)),
+            fti: fti as u8,
+            show_frame: shown,
+        }
+    }
+
+    /// Emits the frame's data in a first pass, and uses its metrics up in a second.
+    fn hand_on(&mut self, m: RCFrameMetrics, trial: bool)
+        requires { m.fti ≤ 4 }
+        ensures { self.new ≡ with_frame_data m trial self.old }
+    {
+        if self.second && !trial {
+            self.given.code();
+        }
+        if self.first {
+            self.emitted.set_waiting(m);
+        }
+    }
+
+    fn take_and_hand_on(
+        &mut self,
+        bits: i64,
+        fti: usize,
+        shown: bool,
+        log_target: i64,
+        trial: bool,
+    )
+        requires { fti ≤ 4 }
+        ensures { let e = entry bits fti shown log_target trial in
+            self.new ≡ with_frame_data (frame_data e self.old) trial (after e self.old) }
+    {
+        let m = self.frame_data(bits, fti, shown, log_target, trial);
+        self.take(bits, fti, shown, log_target, trial);
+        self.hand_on(m, trial);
+    }
+
     /// Takes a coded frame or a show, if there is a bitrate.
     fn take_if_controlled(
         &mut self,
@@ -220,17 +207,19 @@ impl RCState {
         log_target: i64,
         trial: bool,
     )
+        requires { fti ≤ 4 }
         ensures { self.new ≡ update (entry bits fti shown log_target trial) self.old }
     {
         if self.is_controlled() {
-            self.take(bits, fti, shown, log_target, trial);
+            self.take_and_hand_on(bits, fti, shown, log_target, trial);
         }
     }
 
     /// Takes the bits of a frame, and tells whether the frame is dropped, since it has none.
     ///
     /// `log_target_q` is the quantiser that the frame aimed at. A trial sets what is known of its subtype, and isn't
-    /// charged. Without a bitrate nothing changes. `droppable` has no effect.
+    /// charged. A first pass has the frame's data to be taken then, and a second pass lets its metrics go, if they are there.
+    /// Without a bitrate nothing changes. `droppable` has no effect.
     pub fn update_state(
         &mut self,
         bits: i64,

@@ -1,7 +1,7 @@
 use Rattle.std.proofs.Common.{◌≡◌, ◌^◌, ◌*ℤ◌, pos, int_div, rules, to_z, of_z}
 use Rattle.std.specs.Int.{w128, int_min}
-use Rattle.rate_model.proofs.Products.{part_within}
-use Rattle.ratecontrol.proofs.target.ratio.Goals as goal
+use Rattle.reservoir.proofs.Products.{part_within}
+use Rattle.reservoir.proofs.powers.ratio.Goals as goal
 
 pub returns-clause-within : goal.returns-clause-within
 returns-clause-within c =

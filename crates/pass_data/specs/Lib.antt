@@ -1,0 +1,6 @@
+pub mod Emitted
+pub mod Given
+pub mod LookAhead
+pub mod Number
+pub mod Packets
+pub mod Pieces

@@ -1,0 +1,19 @@
+//! What the two passes of a rate controller hand on: the statistics that a first pass emits, and what a second pass was given of them,
+//! in pieces of bytes or in packets, with the frames ahead that it sees.
+//!
+//! Memory is taken by `GivenData::take_window` alone.
+#![tactic(auto)]
+
+mod emitted;
+mod error;
+mod given;
+pub mod laws;
+mod look_ahead;
+mod pieces;
+#[cfg(test)]
+mod tests;
+
+pub use emitted::EmittedData;
+pub use error::PassDataError;
+pub use given::{GivenData, Header};
+pub use look_ahead::LookAhead;
