@@ -65,7 +65,8 @@ impl GivenData {
     }
 
     fn units_seen(&self, delay: i32) -> i64
-        ensures { result ≡ units_seen_of delay self.now }
+        ensures value { result ≡ units_seen_of delay self.now }
+        ensures most { result ≤ℤ delay }
     {
         let units = delay.min(self.left.shown) as i64;
         if self.is_finite {
@@ -79,7 +80,9 @@ impl GivenData {
     /// `delay` temporal units.
     #[tactic(auto, unfolding(crate::specs::LookAhead::look_ahead))]
     pub fn look_ahead(&self, delay: i32, fti: usize) -> LookAhead
-        ensures { result ≡ look_ahead_of delay fti self.now }
+        ensures value { result ≡ look_ahead_of delay fti self.now }
+        ensures frames { IsWithin (2 ^ 34) result.frames }
+        ensures tus { result.tus ≤ℤ delay }
     {
         let seen = self.seen();
         let current = self.current();

@@ -10,7 +10,8 @@ use Rattle.rate_model.specs.Subtype.{SubtypeRate}
 use Rattle.ratecontrol.specs.Rate.{Rate}
 use Rattle.ratecontrol.specs.Ledger.{total}
 use Rattle.rate_model.specs.Measure.{Entry}
-use Rattle.ratecontrol.specs.Update.{FAR, SHOW_BITS, not_far, expected, estimate, update, after, after_frame, after_show, with_subtype, charged}
+use Rattle.reservoir.specs.Moves.{FAR, not_far}
+use Rattle.ratecontrol.specs.Update.{SHOW_BITS, expected, estimate, update, after, after_with_data, after_frame, after_show, with_subtype, charged}
 use Rattle.ratecontrol.specs.Log.{AllFrames, HasBiasRoom, after_all, subtype_after_all, estimate_after_all, bias_changes, bias_after_all}
 use Rattle.ratecontrol.proofs.LogLaws.{settled, updated, subtype_of_own}
 use Rattle.ratecontrol.proofs.ReservoirLaws.{by_trial, not_far_is}
@@ -134,7 +135,7 @@ bias_from rate before [] m on len all within room = no_change (after_all rate be
 bias_from rate before (e ∷ es) m on len all within room =
     let r = after_all rate before in
     let on_r : int_lt (pos 0) r.bitrate ≡ true = ap (int_lt (pos 0)) (still rate before).bitrate ∙ on in
-    let first : update e r ≡ after e r = updated e r on_r in
+    let first : update e r ≡ after_with_data e r = updated e r on_r in
     let next = one_more rate before e in
     let moved = ap (λ (s : Rate). (after_all s es).bias) next in
     by_trial e.trial

@@ -8,7 +8,8 @@ use Rattle.rate_model.specs.Search.{power_log}
 use Rattle.rate_model.specs.Subtype.{SubtypeRate, subtype_at}
 use Rattle.ratecontrol.specs.Rate.{Rate}
 use Rattle.rate_model.specs.Measure.{Entry, LAST_I32, grown, subtype_after, measured, counted, with_scale, following, has_delay_to_grow, with_grown_delay, with_longer_delay, scale_of}
-use Rattle.ratecontrol.specs.Update.{LAST_COUNT, update, after, after_frame, after_show, with_subtype, charged, estimate}
+use Rattle.reservoir.specs.Moves.{LAST_COUNT}
+use Rattle.ratecontrol.specs.Update.{update, after, after_frame, after_show, with_subtype, charged, estimate}
 use Rattle.ratecontrol.specs.Log.{after_all, is_coded, is_real, is_of, coded_after_all, frames_after_all, subtype_after_all}
 use Rattle.ratecontrol.proofs.LogLaws.{settled, updated}
 

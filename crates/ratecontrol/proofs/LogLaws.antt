@@ -7,7 +7,7 @@ use Rattle.std.proofs.lemmas.List.{get_or-set_other, get_or-set_same}
 use Rattle.rate_model.specs.Subtype.{SubtypeRate, subtype_at, no_subtype}
 use Rattle.ratecontrol.specs.Rate.{Rate}
 use Rattle.rate_model.specs.Measure.{Entry, subtype_after}
-use Rattle.ratecontrol.specs.Update.{update, after, after_frame, after_show, with_subtype, charged, estimate}
+use Rattle.ratecontrol.specs.Update.{update, after, after_with_data, after_frame, after_show, with_subtype, charged, estimate}
 use Rattle.ratecontrol.specs.Log.{after_all, is_of, subtype_after_all}
 
 -- what a frame leaves as it is
@@ -36,9 +36,14 @@ settled_after e rate = elim (nat_lt e.subtype 4) as (λ b. IsSettled rate (cond 
   | false ↦ settled_show e rate
 ]
 
+settled_with_data : (e : Entry) (rate : Rate) → IsSettled rate (after_with_data e rate)
+settled_with_data e rate =
+    let s = settled_after e rate in
+    record { bitrate = s.bitrate; log_npixels = s.log_npixels; delay_target = s.delay_target; bits_per_tu = s.bits_per_tu; most = s.most; count = s.count }
+
 pub settled : (e : Entry) (rate : Rate) → IsSettled rate (update e rate)
-settled e rate = elim (int_lt (pos 0) rate.bitrate) as (λ b. IsSettled rate (cond b (after e rate) rate)) [
-  | true ↦ settled_after e rate
+settled e rate = elim (int_lt (pos 0) rate.bitrate) as (λ b. IsSettled rate (cond b (after_with_data e rate) rate)) [
+  | true ↦ settled_with_data e rate
   | false ↦ record { bitrate = refl; log_npixels = refl; delay_target = refl; bits_per_tu = refl; most = refl; count = refl }
 ]
 
@@ -64,8 +69,8 @@ is_other a b ne = grind (arith, nat_tests)
 pub passes_lt : (a b : ℕ) → a < b → nat_lt a b ≡ true
 passes_lt a b h = grind (arith, nat_tests)
 
-pub updated : (e : Entry) (rate : Rate) → int_lt (pos 0) rate.bitrate ≡ true → update e rate ≡ after e rate
-updated e rate on = ap (λ b. cond b (after e rate) rate) on
+pub updated : (e : Entry) (rate : Rate) → int_lt (pos 0) rate.bitrate ≡ true → update e rate ≡ after_with_data e rate
+updated e rate on = ap (λ b. cond b (after_with_data e rate) rate) on
 
 own_frame : (e : Entry) (rate : Rate) (f : ℕ) → e.subtype ≡ f → f < 4 → length rate.subtypes ≡ 4
     → subtype_at (after e rate).subtypes f ≡ subtype_after rate.log_npixels rate.delay_target e (subtype_at rate.subtypes f)
@@ -104,7 +109,7 @@ subtype_of_own rate f (e ∷ es) on below len =
     let same_settings : subtype_after_all next f es ≡ over rate.log_npixels rate.delay_target (subtype_at next.subtypes f) (filter (is_of f) es) =
     ap (λ n. over n next.delay_target (subtype_at next.subtypes f) (filter (is_of f) es)) s.log_npixels
     ∙ ap (λ d. over rate.log_npixels d (subtype_at next.subtypes f) (filter (is_of f) es)) s.delay_target in
-    let first : next ≡ after e rate = updated e rate on in
+    let first : next ≡ after_with_data e rate = updated e rate on in
     let read : subtype_at next.subtypes f ≡ subtype_at (after e rate).subtypes f = ap (λ (r : Rate). subtype_at r.subtypes f) first in
     let put : (t : SubtypeRate) → subtype_at next.subtypes f ≡ t
     → subtype_at (after_all rate (e ∷ es)).subtypes f ≡ over rate.log_npixels rate.delay_target t (filter (is_of f) es) =

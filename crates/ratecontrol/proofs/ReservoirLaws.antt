@@ -4,7 +4,8 @@ use Rattle.std.specs.List.{fold, filter}
 use Rattle.std.proofs.lemmas.Int.{ints, clamps}
 use Rattle.ratecontrol.specs.Rate.{Rate}
 use Rattle.rate_model.specs.Measure.{Entry}
-use Rattle.ratecontrol.specs.Update.{FAR, not_far, update, after, after_frame, after_show, reservoir_after, with_subtype, charged, estimate}
+use Rattle.reservoir.specs.Moves.{FAR, not_far, reservoir_after}
+use Rattle.ratecontrol.specs.Update.{update, after, after_with_data, after_frame, after_show, with_subtype, charged, estimate}
 use Rattle.ratecontrol.specs.Log.{IsFrame, AllFrames, spent, HasRoom, after_all, is_real, change, reservoir_after_all}
 use Rattle.ratecontrol.proofs.LedgerLaws.{capped, capped_is_ledger}
 use Rattle.ratecontrol.proofs.LogLaws.{settled, updated}
@@ -102,7 +103,7 @@ real_is rate e es frame all real h =
     let rest = spent_positive es all in
     let most = h.most in
     let near : not_far (next_reservoir rate e) ≡ next_reservoir rate e = not_far_is (next_reservoir rate e) (low_end (next_reservoir rate e) (spent es) rest left) (high_end (next_reservoir rate e) rate.most top most) in
-    let first : update e rate ≡ after e rate = updated e rate h.controlled in
+    let first : update e rate ≡ after_with_data e rate = updated e rate h.controlled in
     (ap (λ (r : Rate). r.reservoir) first ∙ (real_frame e rate real ∙ (ap not_far (same_change rate.bits_per_tu rate.most e.bits rate.reservoir e.shown) ∙ near)), left, top)
 
 pub reservoir_folds : (rate : Rate) (es : List Entry) → AllFrames es → HasRoom rate es → (after_all rate es).reservoir ≡ over rate.most rate.bits_per_tu rate.reservoir es
@@ -110,7 +111,7 @@ reservoir_folds rate [] all h = refl
 reservoir_folds rate (e ∷ es) all h =
     by_trial e.trial
     (λ trial.
-    let first : update e rate ≡ after e rate = updated e rate h.controlled in
+    let first : update e rate ≡ after_with_data e rate = updated e rate h.controlled in
     let is : (update e rate).reservoir ≡ rate.reservoir = ap (λ (r : Rate). r.reservoir) first ∙ trial_frame e rate trial (all.0.trial trial) in
     let spends : spent (e ∷ es) ≡ pos 0 +ℤ spent es = ap (λ b. cond b (pos 0) e.bits +ℤ spent es) trial in
     let room = same_room (spent es) (rate.reservoir) (rw spends at h.room) in

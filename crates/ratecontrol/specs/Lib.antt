@@ -1,7 +1,9 @@
 pub mod Ahead
 pub mod Ledger
 pub mod Log
+pub mod Passes
 pub mod Rate
+pub mod SecondPass
 pub mod Select
 pub mod Start
 pub mod Update

@@ -7,7 +7,8 @@ use Rattle.rate_model.specs.Subtype.{SubtypeRate, subtype_at}
 use Rattle.ratecontrol.specs.Rate.{Rate}
 use Rattle.ratecontrol.specs.Ledger.{total, ledger}
 use Rattle.rate_model.specs.Measure.{Entry, subtype_after, LAST_I32}
-use Rattle.ratecontrol.specs.Update.{update, expected, FAR, SHOW_BITS, LAST_COUNT}
+use Rattle.reservoir.specs.Moves.{FAR, LAST_COUNT}
+use Rattle.ratecontrol.specs.Update.{update, expected, SHOW_BITS}
 
 -- the state after the frames, one after the other
 abbrev pub after_all : Rate → List Entry → Rate

@@ -72,7 +72,7 @@ ahead_of_frames rate frames look subtype = record {
   frames = frames.frames;
   tus = frames.tus;
   log_scale =
-    scale_of_subtype rate frames look 0 ∷ scale_of_subtype rate frames look 1 ∷ scale_of_subtype rate frames look 2 ∷ scale_of_subtype rate frames look 3 ∷ [];
+      scale_of_subtype rate frames look 0 ∷ scale_of_subtype rate frames look 1 ∷ scale_of_subtype rate frames look 2 ∷ scale_of_subtype rate frames look 3 ∷ [];
   current = current_by look.current (subtype_at rate.subtypes subtype).filter.y0;
 }
 

@@ -1,6 +1,5 @@
 -- The rate state after a frame.
 use Rattle.std.specs.Prelude.{ℕ, ◌-◌, ◌^◌, nat_lt, Bool, not, ◌&&◌, slice_set, ℤ, pos, negsuc, ◌+ℤ◌, ◌-ℤ◌, int_lt, if◌then◌else◌}
-use Rattle.std.specs.Int.{int_min}
 use Rattle.std.specs.Ordering.{int_eq}
 use Rattle.rate_model.specs.Measure.{Entry, grown, LAST_I32, estimate_of, scale_of, subtype_after}
 use Rattle.rate_model.specs.Subtype.{SubtypeRate, subtype_at}
@@ -69,9 +68,12 @@ with_frame_data m trial rate = record rate {
   emitted = if rate.first then with_waiting m rate.emitted else rate.emitted;
 }
 
+abbrev pub after_with_data : Entry → Rate → Rate
+after_with_data e rate = with_frame_data (frame_data e rate) e.trial (after e rate)
+
 -- without a bitrate nothing is kept
 abbrev pub update : Entry → Rate → Rate
-update e rate = if int_lt (pos 0) rate.bitrate then with_frame_data (frame_data e rate) e.trial (after e rate) else rate
+update e rate = if int_lt (pos 0) rate.bitrate then after_with_data e rate else rate
 
 -- a coded frame without bits is dropped
 abbrev pub is_dropped : Entry → Rate → Bool

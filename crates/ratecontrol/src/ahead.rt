@@ -7,8 +7,9 @@ ghost use Rattle.ratecontrol.specs.Ahead.{ahead_of_guess, bias_of, budget as bud
 
 use crate::guess::Guess;
 use crate::state::RCState;
+use fixed_log::wide::product;
 use quantizers::{QTables, log_of_value};
-use rate_model::wide::{quotient, times};
+use rate_model::wide::quotient;
 use rate_model::{RateModel, Search, search_base_q};
 
 /// The frames ahead, as a selection reads them.
@@ -27,18 +28,19 @@ pub(crate) struct Ahead {
 }
 
 /// The bias of a number of frames, where one frame has `mean`.
-fn bias_of_frames(mean: i128, frames: i32) -> i128
-    requires { IsWithin (2 ^ 90) mean }
+fn bias_of_frames(mean: i128, frames: i64) -> i128
+    requires mean { IsWithin (2 ^ 90) mean }
+    requires frames { IsWithin (2 ^ 34) frames }
     ensures value { result ≡ mean *ℤ frames }
-    ensures within { IsWithin (2 ^ 121) result }
+    ensures within { IsWithin (2 ^ 124) result }
 {
-    mean * frames as i128
+    product::<90, 34>(mean, frames as i128)
 }
 
 fn sum_of_budget(above_target: i128, bias: i128, tus: i128) -> i128
     requires above_target { IsWithin (2 ^ 97) above_target }
-    requires bias { IsWithin (2 ^ 121) bias }
-    requires tus { IsWithin (2 ^ 77) tus }
+    requires bias { IsWithin (2 ^ 124) bias }
+    requires tus { IsWithin (2 ^ 109) tus }
     ensures value { result ≡ above_target +ℤ bias +ℤ tus }
 {
     above_target + bias + tus
@@ -59,7 +61,8 @@ impl RCState {
     #[tactic(auto, unfolding(crate::specs::Ahead::ahead_of_guess))]
     pub(crate) fn ahead_of_guess(&self, guess: &Guess, fti: usize) -> Ahead
         requires { fti < 4 }
-        ensures { result ≡ ahead_of_guess self.now guess.now fti }
+        ensures value { result ≡ ahead_of_guess self.now guess.now fti }
+        ensures frames { IsWithin (2 ^ 34) result.frames }
     {
         Ahead {
             nframes: guess.nframes,
@@ -110,16 +113,17 @@ impl RCState {
         self.reservoir - self.target
     }
 
-    fn bits_of_tus(&self, tus: i32) -> i128
+    fn bits_of_tus(&self, tus: i64) -> i128
         ensures value { result ≡ tus *ℤ self.now.bits_per_tu }
-        ensures within { IsWithin (2 ^ 77) result }
+        ensures within { IsWithin (2 ^ 109) result }
     {
-        times(tus as i128, self.bits_per_tu)
+        product::<63, 46>(tus as i128, self.bits_per_tu as i128)
     }
 
     /// What the frames ahead may take.
     #[tactic(auto, unfolding(crate::specs::Ahead::budget))]
-    fn budget(&self, frames: i32, tus: i32) -> i128
+    fn budget(&self, frames: i64, tus: i64) -> i128
+        requires { IsWithin (2 ^ 34) frames }
         ensures { result ≡ budget_of self.now frames tus }
     {
         sum_of_budget(
@@ -146,6 +150,7 @@ impl RCState {
     pub(crate) fn search(&self, tables: &QTables, bit_depth: u8, ahead: &Ahead) -> Search
         requires least { 8 ≤ bit_depth }
         requires most { bit_depth ≤ 12 }
+        requires frames { IsWithin (2 ^ 34) ahead.now.frames }
         ensures { result ≡ searched self.now tables.now bit_depth ahead.now }
     {
         search_base_q(

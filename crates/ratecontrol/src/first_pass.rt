@@ -64,10 +64,7 @@ impl RCState {
     fn gives_summary(&self, done: bool) -> bool
         ensures { result ≡ gives_summary_of done self.now }
     {
-        self.is_controlled()
-            && !self.emitted.is_waiting()
-            && done
-            && !self.emitted.is_summed_up()
+        self.is_controlled() && !self.emitted.is_waiting() && done && !self.emitted.is_summed_up()
     }
 
     /// Gives the last frame's data, while it waits to be taken, and, once all is `done`, the summary, once. Without a bitrate there is nothing.

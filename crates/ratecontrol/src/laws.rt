@@ -7,7 +7,7 @@ ghost use Rattle.std.specs.Prelude.{◌≡◌, ℕ, ◌<◌, List, length, int_l
 ghost use Rattle.rate_model.specs.Subtype.{subtype_at};
 ghost use Rattle.ratecontrol.specs.Rate.{Rate};
 ghost use Rattle.rate_model.specs.Measure.{Entry, LAST_I32};
-ghost use Rattle.ratecontrol.specs.Update.{LAST_COUNT};
+ghost use Rattle.reservoir.specs.Moves.{LAST_COUNT};
 ghost use Rattle.ratecontrol.specs.Log.{AllFrames, HasRoom, HasBiasRoom, after_all, bias_after_all, reservoir_after_all, subtype_after_all, coded_after_all, frames_after_all};
 
 /// The reservoir after frames is a ledger's: the least of what it held at first with all changes, and of the most that

@@ -8,6 +8,8 @@ mod ahead;
 mod first_pass;
 mod guess;
 pub mod laws;
+#[cfg(test)]
+mod pass_tests;
 mod passes;
 mod second_pass;
 mod select;

@@ -35,7 +35,8 @@ fn as_seen(look: &LookAhead) -> FramesAhead
 }
 
 fn as_guessed(guess: &Guess) -> FramesAhead
-    ensures { result ≡ as_guessed_of guess.now }
+    ensures value { result ≡ as_guessed_of guess.now }
+    ensures frames { IsWithin (2 ^ 34) result.frames }
 {
     FramesAhead {
         nframes: guess.nframes,
@@ -151,7 +152,8 @@ impl RCState {
         requires end { IsTrue (sees_the_end_of self.now header.now (G.gop_input_start guess.now)
             max_interval look.now) }
         requires most { look.now.tus ≤ℤ self.now.reservoir_delay }
-        ensures { result ≡ as_guessed_of (G.guess guess.now
+        ensures frames { IsWithin (2 ^ 34) result.frames }
+        ensures value { result ≡ as_guessed_of (G.guess guess.now
             (units_guessed_of self.now header.now (G.gop_input_start guess.now) max_interval look.now)) }
     {
         let more = less_units(max_interval, units_to_end(header, guess.gop_input_start()));
@@ -166,9 +168,11 @@ impl RCState {
         max_interval: i32,
         look: &LookAhead,
     ) -> FramesAhead
-        requires { look.now.tus ≤ℤ self.now.reservoir_delay }
-        ensures { result ≡ frames_by (Some header.now) self.now (G.guess guess.now)
+        requires tus { look.now.tus ≤ℤ self.now.reservoir_delay }
+        requires frames { IsWithin (2 ^ 34) look.now.frames }
+        ensures value { result ≡ frames_by (Some header.now) self.now (G.guess guess.now)
             (G.gop_input_start guess.now) max_interval look.now }
+        ensures frames { IsWithin (2 ^ 34) result.frames }
     {
         if self.sees_the_end(header, guess.gop_input_start(), max_interval, look) {
             self.guessed(guess, header, max_interval, look)
@@ -185,9 +189,11 @@ impl RCState {
         max_interval: i32,
         look: &LookAhead,
     ) -> FramesAhead
-        requires { look.now.tus ≤ℤ self.now.reservoir_delay }
-        ensures { result ≡ frames_ahead_of self.now (G.guess guess.now)
+        requires tus { look.now.tus ≤ℤ self.now.reservoir_delay }
+        requires frames { IsWithin (2 ^ 34) look.now.frames }
+        ensures value { result ≡ frames_ahead_of self.now (G.guess guess.now)
             (G.gop_input_start guess.now) max_interval look.now }
+        ensures frames { IsWithin (2 ^ 34) result.frames }
     {
         match self.given.header() {
             Some(header) => self.frames_by(guess, &header, max_interval, look),
@@ -220,7 +226,8 @@ impl RCState {
     #[tactic(auto, unfolding(crate::specs::SecondPass::ahead_of_frames))]
     fn ahead_of_frames(&self, frames: &FramesAhead, look: &LookAhead, fti: usize) -> Ahead
         requires { fti < 4 }
-        ensures { result ≡ ahead_of_frames_of self.now frames.now look.now fti }
+        ensures value { result ≡ ahead_of_frames_of self.now frames.now look.now fti }
+        ensures frames { result.frames ≡ frames.now.frames }
     {
         Ahead {
             nframes: frames.nframes,
@@ -245,8 +252,9 @@ impl RCState {
         fti: usize,
     ) -> Ahead
         requires { fti < 4 }
-        ensures { result ≡ ahead_of_metrics_of self.now (G.guess guess.now)
+        ensures value { result ≡ ahead_of_metrics_of self.now (G.guess guess.now)
             (G.gop_input_start guess.now) max_interval fti }
+        ensures frames { IsWithin (2 ^ 34) result.frames }
     {
         let look = self.given.look_ahead(self.reservoir_delay, fti);
         let frames = self.frames_ahead(guess, max_interval, &look);

@@ -4,6 +4,7 @@ ghost use Rattle.quantizers.specs.Flat.{flat};
 ghost use Rattle.quantizers.specs.Parameters.{parameters as parameters_of};
 ghost use Rattle.ratecontrol.specs.Select.{at_most as at_most_of, at_least as at_least_of, below_greatest as below_greatest_of, above_least as above_least_of, within_indices as within_indices_of, select_ahead as select_ahead_of, select_flat as select_flat_of, select_first as select_first_of, select};
 ghost use Rattle.std.specs.Int.{saturate_signed, w64};
+ghost use Rattle.fixed_log.specs.Within.{IsWithin};
 ghost use Rattle.quantizers.specs.Subtypes.{modulated as modulated_of};
 ghost use Rattle.ratecontrol.specs.Ahead.{ahead_of_guess as ahead_of_guess_of};
 ghost use Rattle.ratecontrol.specs.SecondPass.{ahead_of_metrics as ahead_of_metrics_of};
@@ -140,6 +141,7 @@ impl RCState {
         requires fti { fti < 4 }
         requires depth_least { 8 ≤ settings.now.bit_depth }
         requires depth_most { settings.now.bit_depth ≤ 12 }
+        requires frames { IsWithin (2 ^ 34) ahead.now.frames }
         ensures { result
             ≡ select_ahead_of self.now settings.now tables.now ahead.now fti prev mean_scale }
     {
@@ -187,10 +189,11 @@ impl RCState {
     /// What is ahead of the next frame: in a second pass by the metrics that are held, else by a guess.
     fn ahead<G: SubtypeGuess>(&self, guess: &G, max_interval: i32, fti: usize) -> Ahead
         requires { fti < 4 }
-        ensures { result ≡ (if self.now.second
+        ensures value { result ≡ (if self.now.second
             then ahead_of_metrics_of self.now (G.guess guess.now) (G.gop_input_start guess.now)
             max_interval fti
             else ahead_of_guess_of self.now (G.guess guess.now self.now.reservoir_delay) fti) }
+        ensures frames { IsWithin (2 ^ 34) result.frames }
     {
         if self.second {
             self.ahead_of_metrics(guess, max_interval, fti)

@@ -170,4 +170,3 @@ impl RCState {
         self.target_against_underflow(log_bits, exponent, target)
     }
 }
-

@@ -37,7 +37,7 @@ impl SubtypeGuess for FixedGuess {
 }
 
 /// The tables with `8 * (i + 1)` at index `i`.
-fn tables() -> Result<QTables, BadTable> {
+pub(crate) fn tables() -> Result<QTables, BadTable> {
     let mut values = [0; 256];
     for i in 0..256u16 {
         values[i as usize] = 8 * (i + 1);
@@ -45,7 +45,7 @@ fn tables() -> Result<QTables, BadTable> {
     QTables::new(values, values)
 }
 
-fn settings(bit_depth: u8, chroma: ChromaSampling) -> QSettings
+pub(crate) fn settings(bit_depth: u8, chroma: ChromaSampling) -> QSettings
     ensures { result.bit_depth ≡ bit_depth }
 {
     QSettings {

@@ -181,14 +181,7 @@ impl RCState {
         }
     }
 
-    fn take_and_hand_on(
-        &mut self,
-        bits: i64,
-        fti: usize,
-        shown: bool,
-        log_target: i64,
-        trial: bool,
-    )
+    fn take_and_hand_on(&mut self, bits: i64, fti: usize, shown: bool, log_target: i64, trial: bool)
         requires { fti ≤ 4 }
         ensures { let e = entry bits fti shown log_target trial in
             self.new ≡ with_frame_data (frame_data e self.old) trial (after e self.old) }

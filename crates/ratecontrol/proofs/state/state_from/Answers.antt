@@ -2,7 +2,7 @@ use Rattle.std.proofs.Common.{◌≡◌, rules, refl, int_div, to_z, of_z, w32, 
 use Rattle.std.specs.Int.{int_shr, w128}
 use Rattle.fixed_log.specs.Logarithm.{blog64}
 use Rattle.rate_model.specs.Curves.{start_subtypes}
-use Rattle.ratecontrol.specs.Start.{reservoir_most, reservoir_target}
+use Rattle.reservoir.specs.Levels.{reservoir_most, reservoir_target}
 use Rattle.ratecontrol.proofs.state.state_from.Goals as goal
 
 pub returns : goal.returns

@@ -1,6 +1,6 @@
 use Rattle.std.proofs.Common.{◌≡◌, refl, rules, ◌+ℤ◌, ◌-ℤ◌, to_z, of_z}
 use Rattle.std.specs.Int.{w128}
-use Rattle.ratecontrol.specs.Update.{not_far, reservoir_after}
+use Rattle.reservoir.specs.Moves.{not_far, reservoir_after}
 use Rattle.ratecontrol.proofs.state.RCState.charge.Goals as goal
 
 pub returns : goal.returns

@@ -1,6 +1,6 @@
 use Rattle.std.proofs.Common.{◌≡◌, refl, rules, to_z, of_z, w32, w64}
 use Rattle.rate_model.specs.Measure.{grown, LAST_I32}
-use Rattle.ratecontrol.specs.Update.{LAST_COUNT}
+use Rattle.reservoir.specs.Moves.{LAST_COUNT}
 use Rattle.ratecontrol.proofs.state.RCState.count_show.Goals as goal
 
 pub returns : goal.returns

@@ -2,7 +2,7 @@ use Rattle.std.proofs.Common.{◌≡◌, ◌∙◌, refl, rules, arith, length, 
 use Rattle.std.proofs.lemmas.List.{get_or_default}
 use Rattle.rate_model.specs.Subtype.{subtype_at, no_subtype}
 use Rattle.rate_model.specs.Measure.{subtype_after, entry}
-use Rattle.ratecontrol.specs.Update.{coded_after}
+use Rattle.reservoir.specs.Moves.{coded_after}
 use Rattle.ratecontrol.proofs.state.RCState.take_subtype.Goals as goal
 
 pub returns : goal.returns
