@@ -1,3 +1,4 @@
+pub mod JoinedLaws
 pub mod PieceLaws
 pub mod SumLaws
 pub mod WholeLaws

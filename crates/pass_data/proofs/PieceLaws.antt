@@ -6,7 +6,7 @@ use Rattle.std.proofs.lemmas.Bool.Decides.{nat_tests}
 use Rattle.std.specs.Prelude.{Option, Some, None, Ok, Err}
 use Rattle.pass_data.specs.declared.error.PassDataError.{PassDataError}
 use Rattle.pass_data.specs.declared.given.Header.{Header}
-use Rattle.pass_data.specs.Given.{Given, Outcome, goal, needed, needed_by, taken}
+use Rattle.pass_data.specs.Given.{Given, Outcome, goal, goal_by, needed, needed_by, taken, with_packet_bytes, with_summary_bytes}
 use Rattle.pass_data.specs.Pieces.{wants, with_whole, with_byte, Progress, further, then_given, given_bytes, part, answer, answer_by}
 
 -- ---- progress
@@ -29,7 +29,7 @@ then_further n m rest g (Some e) = refl
 abbrev with_held : List ℕ → Given → Given
 with_held held g = record g { bytes = held }
 
-one_wanted : (d c : ℤ) (b : ℕ) (bs : List ℕ) (g : Given) → wants d c g ≡ true
+pub one_wanted : (d c : ℤ) (b : ℕ) (bs : List ℕ) (g : Given) → wants d c g ≡ true
     → given_bytes d c (b ∷ bs) g ≡ then_given 1 (given_bytes d c bs) (with_byte b g).given (with_byte b g).refused
 unfolding given_bytes
 one_wanted d c b bs g h =
@@ -51,12 +51,12 @@ test_true a b h = grind (arith, nat_tests)
 pub test_false : (a b : ℕ) → b ≤ a → nat_lt a b ≡ false
 test_false a b h = grind (arith, nat_tests)
 
-byte_kept : (b : ℕ) (g : Given) → length (g.bytes ++ b ∷ []) < goal g → with_byte b g ≡ taken (with_held (g.bytes ++ b ∷ []) g)
+pub byte_kept : (b : ℕ) (g : Given) → length (g.bytes ++ b ∷ []) < goal g → with_byte b g ≡ taken (with_held (g.bytes ++ b ∷ []) g)
 unfolding with_byte
 byte_kept b g h =
     ap (λ w. cond w (taken (with_held (g.bytes ++ b ∷ []) g)) (with_whole (g.bytes ++ b ∷ []) g)) (test_true (length (g.bytes ++ b ∷ [])) (goal g) h)
 
-byte_last : (b : ℕ) (g : Given) → goal g ≤ length (g.bytes ++ b ∷ []) → with_byte b g ≡ with_whole (g.bytes ++ b ∷ []) g
+pub byte_last : (b : ℕ) (g : Given) → goal g ≤ length (g.bytes ++ b ∷ []) → with_byte b g ≡ with_whole (g.bytes ++ b ∷ []) g
 unfolding with_byte
 byte_last b g h =
     ap (λ w. cond w (taken (with_held (g.bytes ++ b ∷ []) g)) (with_whole (g.bytes ++ b ∷ []) g)) (test_false (length (g.bytes ++ b ∷ [])) (goal g) h)
@@ -69,7 +69,7 @@ wants_held : (d c : ℤ) (xs : List ℕ) (g : Given) → wants d c g ≡ true �
 unfolding needed
 wants_held d c xs g h = ap (λ n. not (is_some g.header) || int_lt (pos 0) n) (needed_held d c xs g g.header) ∙ h
 
-one_longer : (xs : List ℕ) (b : ℕ) → length (xs ++ b ∷ []) ≡ suc (length xs)
+pub one_longer : (xs : List ℕ) (b : ℕ) → length (xs ++ b ∷ []) ≡ suc (length xs)
 one_longer xs b = omega (arith, length-append xs (b ∷ []))
 
 -- a byte that doesn't end what is collected
@@ -261,3 +261,70 @@ step_ended d c bs t start g so_far ended =
 
 pub begun : (d c : ℤ) (bs : List ℕ) (g : Given) → given_bytes d c bs g ≡ further 0 (given_bytes d c bs g)
 begun d c bs g = sym (further_zero (given_bytes d c bs g))
+
+-- ---- two pieces
+
+abbrev onwards : ℤ → ℤ → List ℕ → List ℕ → Progress → Progress
+onwards d c more bs p = further p.taken (given_bytes d c (drop p.taken bs ++ more) p.given)
+
+stays : (d c : ℤ) (more bs : List ℕ) (g : Given) → given_bytes d c bs g ≡ record { given = g; taken = 0; refused = None }
+    → given_bytes d c (bs ++ more) g ≡ onwards d c more bs (given_bytes d c bs g)
+stays d c more bs g is = sym (ap (onwards d c more bs) is ∙ further_zero (given_bytes d c (bs ++ more) g))
+
+by_bool : {P : Type 0} (b : Bool) → (b ≡ true → P) → (b ≡ false → P) → P
+by_bool true f g = f refl
+by_bool false f g = g refl
+
+by_option : {P : Type 0} (o : Option PassDataError) → (o ≡ None → P) → ((e : PassDataError) → o ≡ Some e → P) → P
+by_option None f g = f refl
+by_option (Some e) f g = g e refl
+
+never : (e : PassDataError) → None ≡ Some e → ⊥
+never e h = cc
+
+one_on : (d c : ℤ) (b : ℕ) (bs more : List ℕ) (q : Progress) → further 1 (onwards d c more bs q) ≡ onwards d c more (b ∷ bs) (further 1 q)
+one_on d c b bs more q =
+    let one : 1 + q.taken ≡ suc q.taken = omega arith in
+    further_more 1 q.taken _ ∙ ap (λ n. further (1 + q.taken) (given_bytes d c (drop n (b ∷ bs) ++ more) q.given)) (sym one)
+
+pub pieces_joined : (d c : ℤ) (bs more : List ℕ) (g : Given) → (given_bytes d c bs g).refused ≡ None
+    → given_bytes d c (bs ++ more) g ≡ onwards d c more bs (given_bytes d c bs g)
+pieces_joined d c [] more g none = stays d c more [] g (none_given d c g)
+pieces_joined d c (b ∷ bs) more g none =
+    by_bool (wants d c g)
+    (λ h.
+    let o = with_byte b g in
+    let all : given_bytes d c (b ∷ bs) g ≡ then_given 1 (given_bytes d c bs) o.given o.refused = one_wanted d c b bs g h in
+    by_option o.refused
+    (λ fine.
+    let on : given_bytes d c (b ∷ bs) g ≡ further 1 (given_bytes d c bs o.given) = all ∙ ap (then_given 1 (given_bytes d c bs) o.given) fine in
+    let inner : (given_bytes d c bs o.given).refused ≡ None = sym (ap (λ (p : Progress). p.refused) on) ∙ none in
+    one_wanted d c b (bs ++ more) g h
+    ∙ (ap (then_given 1 (given_bytes d c (bs ++ more)) o.given) fine
+    ∙ (ap (further 1) (pieces_joined d c bs more o.given inner)
+    ∙ (one_on d c b bs more (given_bytes d c bs o.given) ∙ sym (ap (onwards d c more (b ∷ bs)) on)))))
+    (λ e bad. absurd (never e (sym none ∙ (ap (λ (p : Progress). p.refused) all ∙ ap (λ x. (then_given 1 (given_bytes d c bs) o.given x).refused) bad)))))
+    (λ h. stays d c more (b ∷ bs) g (none_wanted d c (b ∷ bs) g h))
+
+-- ---- a summary
+
+pub summary_bytes : (d c : ℤ) (bs : List ℕ) (n : ℕ) (g : Given) → g.header ≡ None → length g.bytes + suc n ≡ 68 → suc n ≤ length bs
+    → given_bytes d c bs g
+    ≡ then_given (suc n) (given_bytes d c (drop (suc n) bs)) (with_summary_bytes (g.bytes ++ take (suc n) bs) (with_held [] g)).given
+    (with_summary_bytes (g.bytes ++ take (suc n) bs) (with_held [] g)).refused
+summary_bytes d c bs n g absent ends there =
+    let none : is_some g.header ≡ false = ap is_some absent in
+    let goal_is : goal g ≡ 68 = ap goal_by none in
+    let wanted : wants d c g ≡ true = ap (λ b. not b || int_lt (pos 0) (needed d c g)) none in
+    let summary : with_whole (g.bytes ++ take (suc n) bs) g ≡ with_summary_bytes (g.bytes ++ take (suc n) bs) (with_held [] g) =
+    ap (λ b. cond b (with_packet_bytes (g.bytes ++ take (suc n) bs) (with_held [] g)) (with_summary_bytes (g.bytes ++ take (suc n) bs) (with_held [] g))) none in
+    whole_bytes d c bs n g wanted (ends ∙ sym goal_is) there
+    ∙ ap (λ (o : Outcome). then_given (suc n) (given_bytes d c (drop (suc n) bs)) o.given o.refused) summary
+
+pub part_of_summary : (d c : ℤ) (bs : List ℕ) (g : Given) → g.header ≡ None → length g.bytes + length bs < 68
+    → given_bytes d c bs g ≡ record { given = with_held (g.bytes ++ bs) g; taken = length bs; refused = None }
+part_of_summary d c bs g absent short =
+    let none : is_some g.header ≡ false = ap is_some absent in
+    let goal_is : goal g ≡ 68 = ap goal_by none in
+    let wanted : wants d c g ≡ true = ap (λ b. not b || int_lt (pos 0) (needed d c g)) none in
+    kept_bytes d c bs g wanted (omega arith)

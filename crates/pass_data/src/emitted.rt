@@ -150,6 +150,7 @@ impl EmittedData {
     pub fn emit_summary(&mut self, nframes: [i32; 5], exp: [u8; 4]) -> ArrayVec<u8, 68>
         ensures state { self.new ≡ summed_up self.old }
         ensures bytes { Spells result.items self.old.tus nframes exp self.old.sums }
+        ensures sums { IsFalse (any_negative self.old.sums) }
     {
         self.is_summed_up = true;
         write_summary(self.tus, nframes, exp, self.sums)

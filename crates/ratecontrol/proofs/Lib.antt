@@ -4,4 +4,6 @@ pub mod Four
 pub mod HeaderLaws
 pub mod LedgerLaws
 pub mod LogLaws
+pub mod PassLaws
 pub mod ReservoirLaws
+pub mod SummaryLaws

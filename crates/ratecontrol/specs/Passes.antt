@@ -1,8 +1,9 @@
 -- The calls of both passes.
-use Rattle.std.specs.Prelude.{◌≡◌, ◌↔◌, ℕ, ◌+◌, ◌-◌, ◌*◌, ◌^◌, nat_lt, not, Bool, true, ◌&&◌, ◌||◌, ◌⊎◌, List, [], ◌∷◌, length, slice_index, Option, Some, None, is_some, IsSome, IsFalse, Result, Ok, Err, MatchOption, ℤ, pos, ◌+ℤ◌, ◌-ℤ◌, ◌*ℤ◌, int_lt, if◌then◌else◌, unsigned_abs}
+use Rattle.std.specs.Prelude.{◌≡◌, ◌↔◌, ℕ, ◌+◌, ◌-◌, ◌*◌, ◌^◌, nat_lt, not, Bool, true, ◌&&◌, ◌||◌, ◌⊎◌, List, [], ◌∷◌, length, slice_index, Option, Some, None, is_some, IsSome, IsFalse, Result, Ok, Err, MatchOption, ℤ, pos, ◌+ℤ◌, ◌-ℤ◌, ◌*ℤ◌, ◌≤ℤ◌, int_lt, if◌then◌else◌, unsigned_abs}
 use Rattle.std.specs.Option.{unwrap_or}
 use Rattle.std.specs.Int.{int_min}
 use Rattle.std.specs.Ordering.{int_eq}
+use Rattle.pass_stats.specs.Grammar.{any_negative, frame_total, key_frames}
 use Rattle.pass_stats.specs.Metric.{Metric}
 use Rattle.pass_stats.specs.Summary.{Spells}
 use Rattle.pass_stats.specs.declared.metrics.RCFrameMetrics.{RCFrameMetrics}
@@ -155,6 +156,18 @@ after_summary rate = record rate { emitted = summed_up rate.emitted }
 
 abbrev pub IsSummaryOf : Rate → List ℕ → Type 0
 IsSummaryOf rate bytes = Spells bytes rate.emitted.tus (counts_coded rate) (exponents_of rate) rate.emitted.sums
+
+-- where the temporal units and the counts may be those of a summary
+pub record HasCounts (tus : ℤ) (counts : List ℤ) : Type 0 where
+  pub some_tu : pos 1 ≤ℤ tus
+  pub no_negative_count : IsFalse (any_negative counts)
+  pub total_fits : frame_total counts ≤ℤ pos 0x7fff_ffff
+  pub enough_frames : tus ≤ℤ frame_total counts
+  pub some_key_frame : pos 1 ≤ℤ key_frames counts
+
+abbrev pub IsReadBack : Rate → RCSummary → Type 0
+IsReadBack rate s =
+    (s.ntus ≡ rate.emitted.tus) × (s.nframes ≡ counts_coded rate) × (s.exp ≡ exponents_of rate) × (s.scale_sum ≡ rate.emitted.sums)
 
 -- what is given out: the frame's data that waits, or, at the end, the summary, once
 abbrev pub gives_frame : Rate → Bool

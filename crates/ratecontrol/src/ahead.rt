@@ -1,8 +1,10 @@
-ghost use Rattle.std.specs.Prelude.{◌≡◌, ℕ, ◌+◌, ◌*◌, ◌^◌, ◌<◌, ◌≤◌, [], ◌∷◌, map, slice_index, Option, int_div, pos, ◌+ℤ◌, ◌-ℤ◌, ◌*ℤ◌, ◌≤ℤ◌};
+ghost use Rattle.std.specs.Prelude.{◌≡◌, ℕ, ◌+◌, ◌*◌, ◌^◌, ◌<◌, ◌≤◌, [], ◌∷◌, map, slice_index, Option, IsFalse, int_div, pos, ◌+ℤ◌, ◌-ℤ◌, ◌*ℤ◌, ◌≤ℤ◌};
 ghost use Rattle.std.specs.Option.{unwrap_or};
 ghost use Rattle.fixed_log.specs.Within.{IsWithin};
 ghost use Rattle.quantizers.specs.Tables.{Tables};
 ghost use Rattle.rate_model.specs.Subtype.{SubtypeRate};
+ghost use Rattle.pass_stats.specs.Grammar.{any_zero};
+ghost use Rattle.ratecontrol.specs.Passes.{exponents_of};
 ghost use Rattle.ratecontrol.specs.Ahead.{ahead_of_guess, bias_of, budget as budget_of, model_of, index_log as index_log_of, searched};
 
 use crate::guess::Guess;
@@ -87,7 +89,9 @@ impl RCState {
 
     /// The exponents of the subtypes.
     pub(crate) fn exponents(&self) -> [u8; 4]
-        ensures { result ≡ map (λ (s : SubtypeRate). s.exponent) self.now.subtypes }
+        ensures value { result ≡ map (λ (s : SubtypeRate). s.exponent) self.now.subtypes }
+        ensures four { result ≡ exponents_of self.now }
+        ensures positive { IsFalse (any_zero result) }
     {
         [
             self.subtypes[0].exponent(),

@@ -1,4 +1,5 @@
-ghost use Rattle.std.specs.Prelude.{◌≡◌, ◌↔◌, ℕ, ◌^◌, ◌<◌, not, ◌&&◌, [], ◌∷◌, Option, Some, None, is_some, IsTrue, IsNone, MatchOption, ℤ, pos, ◌+ℤ◌, int_lt, if◌then◌else◌};
+ghost use Rattle.std.specs.Prelude.{◌≡◌, ◌↔◌, ℕ, ◌^◌, ◌<◌, not, ◌&&◌, [], ◌∷◌, Option, Some, None, is_some, ⊤, true, false, IsTrue, IsFalse, IsNone, MatchOption, ℤ, pos, ◌+ℤ◌, int_lt, if◌then◌else◌};
+ghost use Rattle.pass_stats.specs.Grammar.{any_negative, any_zero};
 ghost use Rattle.pass_stats.specs.Metric.{Metric};
 ghost use Rattle.pass_data.specs.Emitted.{with_frame_emitted, summed_up};
 ghost use Rattle.rate_model.specs.Subtype.{SubtypeRate, subtype_at};
@@ -49,6 +50,8 @@ impl RCState {
     pub fn emit_summary(&mut self) -> ArrayVec<u8, 68>
         ensures state { self.new ≡ after_summary self.old }
         ensures summary { IsSummaryOf self.old result.items }
+        ensures exponents { IsFalse (any_zero (exponents_of self.old)) }
+        ensures sums { IsFalse (any_negative self.old.emitted.sums) }
     {
         let counts = self.counts_coded();
         let exponents = self.exponents();

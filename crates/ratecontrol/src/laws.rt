@@ -3,12 +3,25 @@
 //! `update` is the definition that the contract of [`RCState::update_state`](crate::RCState::update_state) cites, and
 //! `after_all` folds it over the list.
 
-ghost use Rattle.std.specs.Prelude.{◌≡◌, ℕ, ◌<◌, List, length, int_lt, true, pos, ◌≤ℤ◌};
+ghost use Rattle.std.specs.Prelude.{◌≡◌, ℕ, ◌<◌, List, length, int_lt, true, pos, ◌≤ℤ◌, MatchResult};
 ghost use Rattle.rate_model.specs.Subtype.{subtype_at};
 ghost use Rattle.ratecontrol.specs.Rate.{Rate};
 ghost use Rattle.rate_model.specs.Measure.{Entry, LAST_I32};
 ghost use Rattle.reservoir.specs.Moves.{LAST_COUNT};
+ghost use Rattle.ratecontrol.specs.Passes.{HasCounts, IsReadBack, counts_coded};
 ghost use Rattle.ratecontrol.specs.Log.{AllFrames, HasRoom, HasBiasRoom, after_all, bias_after_all, reservoir_after_all, subtype_after_all, coded_after_all, frames_after_all};
+
+use crate::state::RCState;
+use pass_stats::{RCSummary, RateControlError, parse_summary};
+
+/// Reading a summary that was emitted gives back its temporal units, counts, exponents and sums, where the temporal units
+/// and the counts may be those of a summary.
+pub fn emitted_summary_again(state: &mut RCState) -> Result<RCSummary, RateControlError>
+    ensures { HasCounts state.old.emitted.tus (counts_coded state.old)
+        → MatchResult result (IsReadBack state.old) (λ _. ⊥) }
+{
+    parse_summary(state.emit_summary().as_slice())
+}
 
 /// The reservoir after frames is a ledger's: the least of what it held at first with all changes, and of the most that
 /// it can hold with the changes after each moment.

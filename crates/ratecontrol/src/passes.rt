@@ -27,6 +27,21 @@ fn room_for(delay: i32) -> usize
     (2 * delay + 8) as usize
 }
 
+fn shorter_delay(delay: i32, ntus: i32) -> i32
+    requires delay { pos 1 ≤ℤ delay }
+    requires ntus { pos 1 ≤ℤ ntus }
+    ensures value { result ≡ int_min delay ntus }
+    ensures low { pos 1 ≤ℤ result }
+{
+    if delay < ntus { delay } else { ntus }
+}
+
+fn base_or(base: Option<i64>, last: i64) -> i64
+    ensures { result ≡ unwrap_or base last }
+{
+    base.unwrap_or(last)
+}
+
 fn set_exponents(subtypes: &mut [SubtypeState; 4], exp: &[u8; 4])
     requires { (j : ℕ) → j < 4 → 1 ≤ slice_index exp.now j }
     ensures { subtypes.new ≡ with_exponents exp.now subtypes.old }
@@ -52,7 +67,7 @@ impl RCState {
         ensures { self.new ≡ in_first base self.old }
     {
         self.first = true;
-        self.first_base = base.unwrap_or(self.first_base);
+        self.first_base = base_or(base, self.first_base);
     }
 
     fn take_buffer(&mut self) -> Result<(), OutOfMemory>
@@ -133,7 +148,7 @@ impl RCState {
         requires { pos 1 ≤ℤ header.now.ntus }
         ensures { self.new ≡ over_the_window_of header.now self.old }
     {
-        self.reservoir_delay = self.reservoir_delay.min(header.ntus);
+        self.reservoir_delay = shorter_delay(self.reservoir_delay, header.ntus);
     }
 
     fn take_levels(&mut self, header: &Header)
@@ -180,7 +195,8 @@ impl RCState {
         ensures { self.new ≡ with_summary s.now self.old }
     {
         self.given.set_up(s);
-        self.set_up_by(self.given.header());
+        let header = self.given.header();
+        self.set_up_by(header);
     }
 }
 
@@ -189,7 +205,7 @@ impl RCState {
     fn is_open(&self) -> bool
         ensures { result ≡ is_open_of self.now }
     {
-        self.is_controlled() && (self.given.header().is_some() || self.commands() == 0)
+        self.is_controlled() && (self.has_header() || self.commands() == 0)
     }
 
     fn bytes_of_summary(&self) -> usize
@@ -214,7 +230,7 @@ impl RCState {
     fn bytes_wanted(&self) -> usize
         ensures { result ≡ bytes_wanted_of self.now }
     {
-        if self.given.header().is_some() {
+        if self.has_header() {
             self.bytes_of_packets()
         } else {
             self.bytes_of_summary()
@@ -229,14 +245,29 @@ impl RCState {
         if had { None } else { self.given.header() }
     }
 
+    fn take_bytes(&mut self, bytes: &[u8]) -> Result<usize, PassDataError>
+        ensures { let p = given_bytes self.old.reservoir_delay (commands_of self.old) bytes.now
+            self.old.given in
+            (self.new ≡ record self.old { given = p.given }) × (result ≡ answer p) }
+    {
+        let commands = self.commands();
+        self.given.give(self.reservoir_delay, commands, bytes)
+    }
+
+    fn has_header(&self) -> bool
+        ensures { result ≡ is_some self.now.given.header }
+    {
+        self.given.header().is_some()
+    }
+
     fn give(&mut self, bytes: &[u8]) -> Result<usize, PassDataError>
         ensures { let a = given_in bytes.now self.old in
             (self.new ≡ a.rate) × (result ≡ a.answer) }
     {
-        let had = self.given.header().is_some();
-        let commands = self.commands();
-        let answer = self.given.give(self.reservoir_delay, commands, bytes);
-        self.set_up_by(self.new_header(had));
+        let had = self.has_header();
+        let answer = self.take_bytes(bytes);
+        let header = self.new_header(had);
+        self.set_up_by(header);
         answer
     }
 

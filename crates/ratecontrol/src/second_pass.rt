@@ -9,7 +9,7 @@ ghost use Rattle.ratecontrol.specs.SecondPass.{units_to_end as units_to_end_of, 
 use crate::ahead::Ahead;
 use crate::guess::{Guess, SubtypeGuess};
 use crate::state::RCState;
-use fixed_log::wide::{product, saturated};
+use fixed_log::wide::{difference, product, saturated};
 use fixed_log::{bexp_q24, blog64, q24_to_q57, q57};
 use pass_data::{Header, LookAhead};
 
@@ -60,6 +60,31 @@ fn less_units(max_interval: i32, units: i128) -> i128
     max_interval as i128 - units
 }
 
+fn units_missing(delay: i32, seen: i64) -> i128
+    ensures { result ≡ delay -ℤ seen }
+{
+    delay as i128 - seen as i128
+}
+
+fn lesser(a: i128, b: i128) -> i128
+    ensures value { result ≡ int_min a b }
+    ensures low { pos 0 ≤ℤ a → pos 0 ≤ℤ b → pos 0 ≤ℤ result }
+    ensures most { result ≤ℤ b }
+{
+    if a < b { a } else { b }
+}
+
+/// More units than are seen, as far as the delay.
+fn more_units(seen: i64, left: i32, delay: i32, by: i128) -> i32
+    requires low { pos 0 ≤ℤ by }
+    requires most { by ≤ℤ (delay -ℤ seen) }
+    requires left { left ≤ℤ seen }
+    ensures { result ≡ seen +ℤ by }
+{
+    let _ = (left, delay);
+    (seen as i128 + by) as i32
+}
+
 /// As many units as are seen, and the lesser of `more` and of what is missing to the delay.
 fn units_guessed(seen: i64, left: i32, delay: i32, more: i128) -> i32
     requires more_low { pos 0 <ℤ more }
@@ -67,17 +92,27 @@ fn units_guessed(seen: i64, left: i32, delay: i32, more: i128) -> i32
     requires most { seen ≤ℤ delay }
     ensures { result ≡ seen +ℤ int_min more (delay -ℤ seen) }
 {
-    let missing = delay as i128 - seen as i128;
-    let by = if more < missing { more } else { missing };
-    let _ = left;
-    (seen as i128 + by) as i32
+    more_units(seen, left, delay, lesser(more, units_missing(delay, seen)))
+}
+
+fn is_before_end(header: &Header, gop_start: u64) -> bool
+    ensures { result ≡ int_lt (pos gop_start) header.now.ntus }
+{
+    (gop_start as i128) < header.ntus as i128
+}
+
+fn ends_within(header: &Header, gop_start: u64, max_interval: i32) -> bool
+    ensures { result ≡ int_lt (units_to_end_of header.now gop_start) max_interval }
+{
+    units_to_end(header, gop_start) < max_interval as i128
 }
 
 /// The scales of frames that aren't counted.
 fn scales_of_others(last: i32, nframes: i32, count: i32) -> i128
     ensures { result ≡ bexp_q24_of last *ℤ (nframes -ℤ count) }
 {
-    product::<47, 33>(bexp_q24(last) as i128, nframes as i128 - count as i128)
+    let others = difference::<31, 31>(nframes as i128, count as i128);
+    product::<47, 32>(bexp_q24(last) as i128, others)
 }
 
 fn sum_of_scales(sum: i128, others: i128) -> i64
@@ -89,7 +124,8 @@ fn sum_of_scales(sum: i128, others: i128) -> i64
 fn mean_of(log_sum: i64, log_count: i64) -> i64
     ensures { result ≡ saturate_signed w64 (log_sum -ℤ log_count -ℤ q57_of (pos 24)) }
 {
-    saturated(log_sum as i128 - log_count as i128 - q57(24) as i128)
+    let mean = difference::<63, 63>(log_sum as i128, log_count as i128);
+    saturated(difference::<64, 62>(mean, q57(24) as i128))
 }
 
 /// The mean scale of the frames of a subtype.
@@ -126,6 +162,12 @@ fn current(seen: Option<i32>, last: i32) -> i64
 }
 
 impl RCState {
+    fn sees_all(&self, look: &LookAhead) -> bool
+        ensures { result ≡ int_le self.now.given.left.shown look.now.tus }
+    {
+        self.given.left().shown as i64 <= look.tus
+    }
+
     /// Whether all that is left is seen, and the file ends within the GOP, before the next key frame would be due.
     fn sees_the_end(
         &self,
@@ -136,9 +178,31 @@ impl RCState {
     ) -> bool
         ensures { result ≡ sees_the_end_of self.now header.now gop_start max_interval look.now }
     {
-        self.given.left().shown as i64 <= look.tus
-            && (gop_start as i128) < header.ntus as i128
-            && units_to_end(header, gop_start) < max_interval as i128
+        self.sees_all(look)
+            && is_before_end(header, gop_start)
+            && ends_within(header, gop_start, max_interval)
+    }
+
+    /// As many units as are seen, and more, as far as the key frame that would be due.
+    fn units_guessed(
+        &self,
+        header: &Header,
+        gop_start: u64,
+        max_interval: i32,
+        look: &LookAhead,
+    ) -> i32
+        requires all { self.now.given.left.shown ≤ℤ look.now.tus }
+        requires end { units_to_end_of header.now gop_start <ℤ max_interval }
+        requires most { look.now.tus ≤ℤ self.now.reservoir_delay }
+        ensures { result ≡ units_guessed_of self.now header.now gop_start max_interval look.now }
+    {
+        let more = less_units(max_interval, units_to_end(header, gop_start));
+        units_guessed(
+            look.tus,
+            self.given.left().shown,
+            self.reservoir_delay,
+            more,
+        )
     }
 
     /// The guess of the frames ahead, as far as the key frame that would be due.
@@ -149,16 +213,15 @@ impl RCState {
         max_interval: i32,
         look: &LookAhead,
     ) -> FramesAhead
-        requires end { IsTrue (sees_the_end_of self.now header.now (G.gop_input_start guess.now)
-            max_interval look.now) }
+        requires all { self.now.given.left.shown ≤ℤ look.now.tus }
+        requires end { units_to_end_of header.now (G.gop_input_start guess.now) <ℤ max_interval }
         requires most { look.now.tus ≤ℤ self.now.reservoir_delay }
         ensures frames { IsWithin (2 ^ 34) result.frames }
         ensures value { result ≡ as_guessed_of (G.guess guess.now
             (units_guessed_of self.now header.now (G.gop_input_start guess.now) max_interval look.now)) }
     {
-        let more = less_units(max_interval, units_to_end(header, guess.gop_input_start()));
-        let left = self.given.left().shown;
-        as_guessed(&guess.guess(units_guessed(look.tus, left, self.reservoir_delay, more)))
+        let units = self.units_guessed(header, guess.gop_input_start(), max_interval, look);
+        as_guessed(&guess.guess(units))
     }
 
     fn frames_by<G: SubtypeGuess>(

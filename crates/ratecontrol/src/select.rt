@@ -186,20 +186,47 @@ impl RCState {
         )
     }
 
-    /// What is ahead of the next frame: in a second pass by the metrics that are held, else by a guess.
-    fn ahead<G: SubtypeGuess>(&self, guess: &G, max_interval: i32, fti: usize) -> Ahead
-        requires { fti < 4 }
-        ensures value { result ≡ (if self.now.second
-            then ahead_of_metrics_of self.now (G.guess guess.now) (G.gop_input_start guess.now)
-            max_interval fti
-            else ahead_of_guess_of self.now (G.guess guess.now self.now.reservoir_delay) fti) }
-        ensures frames { IsWithin (2 ^ 34) result.frames }
+    /// The parameters in a second pass, by the metrics that it was given.
+    fn select_by_metrics<G: SubtypeGuess>(
+        &self,
+        settings: &QSettings,
+        tables: &QTables,
+        guess: &G,
+        fti: usize,
+        prev: Option<i64>,
+        mean_scale: i64,
+    ) -> QuantizerParameters
+        requires fti { fti < 4 }
+        requires depth_least { 8 ≤ settings.now.bit_depth }
+        requires depth_most { settings.now.bit_depth ≤ 12 }
+        ensures { result ≡ select_ahead_of self.now settings.now tables.now
+            (ahead_of_metrics_of self.now (G.guess guess.now) (G.gop_input_start guess.now)
+            settings.now.max_key_frame_interval fti) fti prev mean_scale }
     {
-        if self.second {
-            self.ahead_of_metrics(guess, max_interval, fti)
-        } else {
-            self.ahead_of_guess(&guess.guess(self.reservoir_delay), fti)
-        }
+        let ahead = self.ahead_of_metrics(guess, settings.max_key_frame_interval, fti);
+        self.select_ahead(settings, tables, &ahead, fti, prev, mean_scale)
+    }
+
+    /// The parameters in one pass, by a guess of the frames ahead.
+    fn select_by_guess<G: SubtypeGuess>(
+        &self,
+        settings: &QSettings,
+        tables: &QTables,
+        guess: &G,
+        fti: usize,
+        prev: Option<i64>,
+        mean_scale: i64,
+    ) -> QuantizerParameters
+        requires fti { fti < 4 }
+        requires depth_least { 8 ≤ settings.now.bit_depth }
+        requires depth_most { settings.now.bit_depth ≤ 12 }
+        ensures { result ≡ select_ahead_of self.now settings.now tables.now
+            (ahead_of_guess_of self.now (G.guess guess.now self.now.reservoir_delay) fti)
+            fti prev mean_scale }
+    {
+        let guess = guess.guess(self.reservoir_delay);
+        let ahead = self.ahead_of_guess(&guess, fti);
+        self.select_ahead(settings, tables, &ahead, fti, prev, mean_scale)
     }
 
     /// The quantiser parameters of the next frame, of subtype 0 to 3.
@@ -224,11 +251,12 @@ impl RCState {
     {
         if !self.is_controlled() {
             select_flat(settings, tables, fti, mean_scale)
-        } else if self.first && !self.second {
+        } else if self.second {
+            self.select_by_metrics(settings, tables, guess, fti, prev, mean_scale)
+        } else if self.first {
             self.select_first(settings, tables, fti)
         } else {
-            let ahead = self.ahead(guess, settings.max_key_frame_interval, fti);
-            self.select_ahead(settings, tables, &ahead, fti, prev, mean_scale)
+            self.select_by_guess(settings, tables, guess, fti, prev, mean_scale)
         }
     }
 }

@@ -16,4 +16,4 @@ returns c =
     let target_is : to_z w128 (of_z w128 c.reservoir_target-target.result) ≡ reservoir_target (to_z w128 (of_z w128 c.reservoir_most-most.result)) = search rules in
     let ibpp_is : to_z w64 (of_z w64 c.pixels_per_bit.result) ≡ int_div c.args.npixels c.args.bits_per_tu = search rules in
     let subtypes_are : c.start_subtypes.result ≡ start_subtypes (int_div c.args.npixels c.args.bits_per_tu) = c.start_subtypes.ensures ∙ ap start_subtypes ibpp_is in
-    rw (half_is, bitrate_is, bits_is, delay_is, log_is, target_is, most_is, subtypes_are) refl
+    rw (half_is, bitrate_is, bits_is, delay_is, log_is, target_is, most_is, subtypes_are, c.new.ensures, c.new-2.ensures) refl
