@@ -1,5 +1,5 @@
 -- The metrics that are accepted are those of the joined bytes.
-use Rattle.std.proofs.Common.{◌≡◌, ℕ, zero, suc, ◌+◌, ◌<◌, ◌≤◌, nat_lt, nat_le, Bool, true, false, cond, List, [], ◌∷◌, ◌++◌, length, take, drop, length-append, length-take, append_assoc, refl, sym, ◌∙◌, ap, subst, arith, ℤ, is_some, slice_get}
+use Rattle.std.proofs.Common.{◌≡◌, ℕ, zero, suc, ◌+◌, ◌<◌, ◌≤◌, nat_lt, nat_le, ◌==◌, Bool, true, false, cond, List, [], ◌∷◌, ◌++◌, length, take, drop, length-append, length-take, append_assoc, refl, sym, ◌∙◌, ap, subst, arith, ℤ, is_some, slice_get}
 use Rattle.std.proofs.lemmas.List.{append-nil, take-append-le, drop-append-le}
 use Rattle.std.proofs.lemmas.Bool.{true≢false}
 use Rattle.std.proofs.lemmas.Bool.Decides.{nat_tests}
@@ -7,9 +7,10 @@ use Rattle.std.proofs.Math.Seq.{take-append_seam, drop-append_seam}
 use Rattle.std.specs.Prelude.{Option, Some, None}
 use Rattle.pass_stats.specs.Metric.{Metric, subtype_at}
 use Rattle.pass_stats.specs.declared.metrics.RCFrameMetrics.{RCFrameMetrics}
+use Rattle.metrics_window.specs.Window.{with_taken}
 use Rattle.pass_data.specs.declared.error.PassDataError.{PassDataError}
-use Rattle.pass_data.specs.declared.error.PassDataError.TheVariants.{TooManyFrames}
-use Rattle.pass_data.specs.Given.{Given, Outcome, goal, coded, coded_by, current, taken, refused, with_metrics, with_packet_bytes, with_summary_bytes, into_window, metrics_at, bad_packet}
+use Rattle.pass_data.specs.declared.error.PassDataError.TheVariants.{TooManyFrames, NotNeeded, WrongSize}
+use Rattle.pass_data.specs.Given.{Given, Outcome, goal, coded, coded_by, current, taken, refused, with_metrics, with_packet_bytes, with_summary_bytes, into_window, sent, metrics_at, bad_packet}
 use Rattle.pass_data.specs.Pieces.{wants, with_whole, with_byte, Progress, further, then_given, given_bytes}
 use Rattle.pass_data.specs.Packets.{ArePackets, Event, Reads, given_after, joined, frames_coded, AllTaken, HasRead}
 use Rattle.pass_data.specs.Packets.Event.{Piece, Frame}
@@ -235,3 +236,43 @@ packets_determined bytes (m ∷ ms) (n ∷ ns) rest end p q =
     let both = packets_determined (drop 8 bytes) ms ns rest end p.1 q.1 in
     let same : m ≡ n = (metric_is (take 8 bytes) m p.0).1 ∙ sym (metric_is (take 8 bytes) n q.0).1 in
     (ap (λ (x : RCFrameMetrics). x ∷ ms) same ∙ ap (λ (xs : List RCFrameMetrics). n ∷ xs) both.0, both.1)
+
+-- ---- packets
+
+refused_not : {P : Type 0} (o : Outcome) (e : PassDataError) (g : Given) → o ≡ refused e g → o.refused ≡ None → P
+refused_not o e g is none = absurd (nothing_refused e (sym none ∙ ap (λ (x : Outcome). x.refused) is))
+
+into_window_is : (m : RCFrameMetrics) (g : Given) → (into_window m g).refused ≡ None → (into_window m g).given ≡ record g { window = with_taken m g.window }
+into_window_is m g none =
+    by_bool (nat_le g.window.capacity (length g.window.held))
+    (λ full. refused_not (into_window m g) TooManyFrames g (ap (λ b. cond b (refused TooManyFrames g) (taken (record g { window = with_taken m g.window }))) full) none)
+    (λ room. ap (λ b. (cond b (refused TooManyFrames g) (taken (record g { window = with_taken m g.window }))).given) room)
+
+abbrev for_need : Bool → List ℕ → Given → Outcome
+for_need b bytes g = cond b (with_metrics (metrics_at bytes) g) (refused NotNeeded g)
+
+abbrev for_subtype : Bool → Bool → List ℕ → Given → Outcome
+for_subtype b is_needed bytes g = cond b (refused (bad_packet bytes) g) (for_need is_needed bytes g)
+
+pub packet_accepted : (is_needed : Bool) (bytes : List ℕ) (g : Given) → g.is_finite ≡ true → (sent is_needed bytes g).refused ≡ None
+    → Metric bytes (metrics_at bytes) × ((sent is_needed bytes g).given ≡ record g { window = with_taken (metrics_at bytes) g.window })
+unfolding sent
+packet_accepted is_needed bytes g finite none =
+    by_bool (length bytes == 8)
+    (λ size.
+    let long : length bytes ≡ 8 = grind (arith, nat_tests) in
+    let a : sent is_needed bytes g ≡ for_subtype (nat_lt 4 (subtype_at bytes)) is_needed bytes g =
+    ap (λ b. cond b (for_subtype (nat_lt 4 (subtype_at bytes)) is_needed bytes g) (refused (WrongSize (length bytes)) g)) size in
+    by_bool (nat_lt 4 (subtype_at bytes))
+    (λ bad. refused_not _ (bad_packet bytes) g (a ∙ ap (λ b. for_subtype b is_needed bytes g) bad) none)
+    (λ good.
+    by_bool is_needed
+    (λ yes.
+    let all : sent is_needed bytes g ≡ into_window (metrics_at bytes) g =
+    a ∙ (ap (λ b. for_subtype b is_needed bytes g) good ∙ (ap (λ b. for_need b bytes g) yes
+    ∙ ap (λ b. cond b (into_window (metrics_at bytes) g) (taken (record g { next = Some (metrics_at bytes) }))) finite)) in
+    (metric_at bytes long good, ap (λ (x : Outcome). x.given) all ∙ into_window_is (metrics_at bytes) g (sym (ap (λ (x : Outcome). x.refused) all) ∙ none)))
+    (λ no. refused_not _ NotNeeded g (a ∙ (ap (λ b. for_subtype b is_needed bytes g) good ∙ ap (λ b. for_need b bytes g) no)) none)))
+    (λ other.
+    refused_not _ (WrongSize (length bytes)) g
+    (ap (λ b. cond b (for_subtype (nat_lt 4 (subtype_at bytes)) is_needed bytes g) (refused (WrongSize (length bytes)) g)) other) none)

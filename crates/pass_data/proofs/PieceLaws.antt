@@ -271,7 +271,7 @@ stays : (d c : ℤ) (more bs : List ℕ) (g : Given) → given_bytes d c bs g �
     → given_bytes d c (bs ++ more) g ≡ onwards d c more bs (given_bytes d c bs g)
 stays d c more bs g is = sym (ap (onwards d c more bs) is ∙ further_zero (given_bytes d c (bs ++ more) g))
 
-by_bool : {P : Type 0} (b : Bool) → (b ≡ true → P) → (b ≡ false → P) → P
+pub by_bool : {P : Type 0} (b : Bool) → (b ≡ true → P) → (b ≡ false → P) → P
 by_bool true f g = f refl
 by_bool false f g = g refl
 

@@ -2,9 +2,11 @@
 //!
 //! `given_bytes` is the definition that the contract of [`GivenData::give`](crate::GivenData::give) cites.
 
-ghost use Rattle.std.specs.Prelude.{◌≡◌, ℕ, suc, ◌+◌, ◌<◌, ◌≤◌, List, [], ◌++◌, length, take, drop, None, true, is_some, ℤ};
+ghost use Rattle.std.specs.Prelude.{◌≡◌, ℕ, suc, ◌+◌, ◌<◌, ◌≤◌, Bool, List, [], ◌∷◌, ◌++◌, length, take, drop, None, true, is_some, ℤ};
+ghost use Rattle.pass_stats.specs.Metric.{Metric};
+ghost use Rattle.metrics_window.specs.Window.{with_taken};
 ghost use Rattle.pass_stats.specs.declared.metrics.RCFrameMetrics.{RCFrameMetrics};
-ghost use Rattle.pass_data.specs.Given.{Given, with_summary_bytes};
+ghost use Rattle.pass_data.specs.Given.{Given, with_summary_bytes, sent, metrics_at};
 ghost use Rattle.pass_data.specs.Pieces.{further, then_given, given_bytes};
 ghost use Rattle.pass_data.specs.Packets.{ArePackets, Event, Reads, given_after, joined, frames_coded, AllTaken, HasRead};
 
@@ -40,4 +42,13 @@ pub fn accepted_metrics_are_those_of_the_joined_bytes()
         → HasRead (g.bytes ++ joined events g) (frames_coded events) g (given_after events g) }
     ensures determined { (bytes : List ℕ) (ms ns : List RCFrameMetrics) (rest end : List ℕ)
         → ArePackets bytes ms rest → ArePackets bytes ns end → (ms ≡ ns) × (rest ≡ end) }
+{}
+
+/// A packet that a window takes stands for the metrics that it accepts, last in order; bytes of an unfinished one stay.
+#[tactic(auto, using(crate::proofs::JoinedLaws::packet_accepted))]
+pub fn a_packet_is_accepted_as_its_metrics()
+    ensures { (is_needed : Bool) (bytes : List ℕ) (g : Given) → g.is_finite ≡ true
+        → (sent is_needed bytes g).refused ≡ None → Metric bytes (metrics_at bytes)
+        × ((sent is_needed bytes g).given
+        ≡ record g { window = with_taken (metrics_at bytes) g.window }) }
 {}

@@ -6,10 +6,12 @@
 
 mod emitted;
 mod error;
+pub mod file_end;
 mod given;
 pub mod laws;
 mod look_ahead;
 mod pieces;
+pub mod scales;
 #[cfg(test)]
 mod tests;
 

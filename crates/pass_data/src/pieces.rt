@@ -1,8 +1,9 @@
-ghost use Rattle.std.specs.Prelude.{◌≡◌, ℕ, ◌+◌, ◌-◌, ◌<◌, ◌≤◌, min, not, nat_lt, ◌||◌, Bool, true, false, List, [], ◌∷◌, ◌++◌, length, take, drop, Option, Some, None, is_some, MatchResult, IsTrue, int_lt, pos, if◌then◌else◌};
+ghost use Rattle.std.specs.Prelude.{◌≡◌, ◌≢◌, ℕ, ◌+◌, ◌-◌, ◌<◌, ◌≤◌, min, not, nat_lt, ◌||◌, Bool, true, false, List, [], ◌∷◌, ◌++◌, length, take, drop, Option, Some, None, is_some, MatchResult, IsTrue, int_lt, pos, if◌then◌else◌};
 ghost use Rattle.pass_stats.specs.Grammar.{frame_total};
 ghost use Rattle.pass_stats.specs.Summary.{Spells, first_met};
 ghost use Rattle.pass_stats.specs.declared.summary.RCSummary.{RCSummary};
 ghost use Rattle.pass_data.specs.Given.{Given, refusal_by, goal as goal_of};
+ghost use Rattle.pass_data.specs.declared.error.PassDataError.{PassDataError};
 ghost use Rattle.pass_data.specs.Pieces.{wants as wants_of, part as part_of, given_bytes, answer};
 
 use crate::error::PassDataError;
@@ -94,14 +95,7 @@ impl GivenData {
         }
     }
 
-    /// Takes bytes of a summary, and then of frames' metrics, as long as some are wanted in a second pass whose reservoir is evened out
-    /// over `delay` temporal units, where so many commands were coded. Gives how many it took. Bytes may come in any pieces; what it
-    /// did not take is to be offered again.
-    ///
-    /// # Errors
-    ///
-    /// What refuses the first summary, or the first frame's metrics, that isn't taken. Its bytes are let go, and what was taken before it stays.
-    pub fn give(&mut self, delay: i32, commands: i128, bytes: &[u8]) -> Result<usize, PassDataError>
+    fn give_all(&mut self, delay: i32, commands: i128, bytes: &[u8]) -> Result<usize, PassDataError>
         ensures { let p = given_bytes delay commands bytes.now self.old in
             (self.new ≡ p.given) × (result ≡ answer p) }
     {
@@ -113,5 +107,21 @@ impl GivenData {
             }
         }
         Ok(taken)
+    }
+
+    /// Takes bytes of a summary, and then of frames' metrics, as long as some are wanted in a second pass whose reservoir is evened out
+    /// over `delay` temporal units, where so many commands were coded. Gives how many it took. Bytes may come in any pieces; what it
+    /// did not take is to be offered again.
+    ///
+    /// # Errors
+    ///
+    /// What refuses the first summary, or the first frame's metrics, that isn't taken. Its bytes are let go, and what was taken before it stays.
+    #[tactic(auto, using(crate::proofs::MemoryLaws::never_memory))]
+    pub fn give(&mut self, delay: i32, commands: i128, bytes: &[u8]) -> Result<usize, PassDataError>
+        ensures taken { let p = given_bytes delay commands bytes.now self.old in
+            (self.new ≡ p.given) × (result ≡ answer p) }
+        ensures never_memory { result ≢ Err PassDataError.OutOfMemory }
+    {
+        self.give_all(delay, commands, bytes)
     }
 }

@@ -142,11 +142,13 @@ fn emitted_sums_are_those_of_taken_metrics(rt: HostRuntime) -> Result<(), Fail> 
     assert!(rt; emitted.is_summed_up());
     match parse_summary(bytes.as_slice()) {
         Ok(summary) => {
-            assert_eq!(rt; (summary.ntus, summary.nframes), (1, [1, 0, 0, 0, 0]));
-            assert_eq!(rt;
-                (summary.exp, summary.scale_sum),
-                ([48, 69, 84, 87], [33_554_432, 0, 0, 0])
-            );
+            let nframes = summary.nframes;
+            let exp = summary.exp;
+            let sums = summary.scale_sum;
+            assert_eq!(rt; summary.ntus, 1);
+            assert_eq!(rt; nframes, [1, 0, 0, 0, 0]);
+            assert_eq!(rt; exp, [48, 69, 84, 87]);
+            assert_eq!(rt; sums, [33_554_432, 0, 0, 0]);
         }
         Err(_) => assert!(rt; false),
     }

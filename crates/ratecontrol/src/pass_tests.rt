@@ -118,9 +118,13 @@ fn a_first_pass_of_one_frame(rt: HostRuntime) -> Result<(), Fail> {
     match state.twopass_out(true) {
         Some(bytes) => match parse_summary(bytes.as_slice()) {
             Ok(summary) => {
-                assert_eq!(rt; (summary.ntus, summary.nframes), (1, [1, 0, 0, 0, 0]));
-                assert_eq!(rt; summary.exp, [77, 83, 68, 61]);
-                assert_eq!(rt; summary.scale_sum, [0x74997f, 0, 0, 0]);
+                let nframes = summary.nframes;
+                let exp = summary.exp;
+                let sums = summary.scale_sum;
+                assert_eq!(rt; summary.ntus, 1);
+                assert_eq!(rt; nframes, [1, 0, 0, 0, 0]);
+                assert_eq!(rt; exp, [77, 83, 68, 61]);
+                assert_eq!(rt; sums, [0x74997f, 0, 0, 0]);
             }
             Err(_) => assert!(rt; false),
         },
@@ -194,6 +198,7 @@ fn pieces_of_any_size(rt: HostRuntime) -> Result<(), Fail> {
     bytes.extend_from_slice(&PACKET)?;
     for size in [1, 7, 8, 68, 200] {
         let mut state = RCState::new(alloc, 640, 480, 30, 1, 3_000_000, None, 0, 240, Some(12));
+        assert!(rt; 0 < size);
         let mut taken = 0usize;
         for piece in bytes.chunks(size) {
             taken = taken.wrapping_add(state.twopass_in(Some(piece))?);

@@ -246,9 +246,10 @@ impl RCState {
     }
 
     fn take_bytes(&mut self, bytes: &[u8]) -> Result<usize, PassDataError>
-        ensures { let p = given_bytes self.old.reservoir_delay (commands_of self.old) bytes.now
+        ensures given { let p = given_bytes self.old.reservoir_delay (commands_of self.old) bytes.now
             self.old.given in
             (self.new ≡ record self.old { given = p.given }) × (result ≡ answer p) }
+        ensures never_memory { result ≢ Err PassDataError.OutOfMemory }
     {
         let commands = self.commands();
         self.given.give(self.reservoir_delay, commands, bytes)
@@ -261,8 +262,9 @@ impl RCState {
     }
 
     fn give(&mut self, bytes: &[u8]) -> Result<usize, PassDataError>
-        ensures { let a = given_in bytes.now self.old in
+        ensures given { let a = given_in bytes.now self.old in
             (self.new ≡ a.rate) × (result ≡ a.answer) }
+        ensures never_memory { result ≢ Err PassDataError.OutOfMemory }
     {
         let had = self.has_header();
         let answer = self.take_bytes(bytes);
@@ -272,7 +274,8 @@ impl RCState {
     }
 
     fn ask(&mut self) -> Result<usize, PassDataError>
-        ensures { IsAnswered (asked self.old) self.old self.new result }
+        ensures asked { IsAnswered (asked self.old) self.old self.new result }
+        ensures memory { result ≡ Err PassDataError.OutOfMemory → WantsMemory self.old self.new }
     {
         if !self.is_open() {
             return Ok(0);
@@ -284,7 +287,8 @@ impl RCState {
     }
 
     fn take_in(&mut self, bytes: &[u8]) -> Result<usize, PassDataError>
-        ensures { IsAnswered (taken_in bytes.now self.old) self.old self.new result }
+        ensures taken { IsAnswered (taken_in bytes.now self.old) self.old self.new result }
+        ensures memory { result ≡ Err PassDataError.OutOfMemory → WantsMemory self.old self.new }
     {
         if !self.is_open() {
             return Ok(0);
@@ -304,9 +308,10 @@ impl RCState {
     /// `Corrupted`, `BadPacket` or `TooManyFrames` for the first summary or metrics that are refused; what was taken before them stays, and
     /// their bytes are let go. `OutOfMemory` where there is none for the window, and then nothing has changed.
     pub fn twopass_in(&mut self, bytes: Option<&[u8]>) -> Result<usize, PassDataError>
-        ensures { MatchOption bytes.entry
+        ensures answer { MatchOption bytes.entry
             (IsAnswered (asked self.old) self.old self.new result)
             (λ bytes. IsAnswered (taken_in bytes.now self.old) self.old self.new result) }
+        ensures memory { result ≡ Err PassDataError.OutOfMemory → WantsMemory self.old self.new }
     {
         match bytes {
             Some(bytes) => self.take_in(bytes),

@@ -1,16 +1,15 @@
 ghost use Rattle.std.specs.Prelude.{◌≡◌, ℕ, ◌+◌, ◌-◌, ◌*◌, ◌^◌, ◌<◌, ◌≤◌, ◌&&◌, [], ◌∷◌, Option, Some, None, ℤ, pos, ◌+ℤ◌, ◌-ℤ◌, ◌*ℤ◌, ◌≤ℤ◌, ◌<ℤ◌, int_lt, int_le, IsTrue, if◌then◌else◌};
-ghost use Rattle.std.specs.Int.{int_min, saturate_signed, w64};
 ghost use Rattle.fixed_log.specs.Within.{IsWithin};
-ghost use Rattle.fixed_log.specs.Conversion.{bexp_q24 as bexp_q24_of, q57 as q57_of};
-ghost use Rattle.fixed_log.specs.Logarithm.{blog64 as blog64_of};
 ghost use Rattle.rate_model.specs.Subtype.{subtype_at};
-ghost use Rattle.ratecontrol.specs.SecondPass.{units_to_end as units_to_end_of, sees_the_end as sees_the_end_of, units_guessed as units_guessed_of, as_seen as as_seen_of, as_guessed as as_guessed_of, frames_by, frames_ahead as frames_ahead_of, mean_scale as mean_scale_of, scale_ahead as scale_ahead_of, scale_of_subtype as scale_of_subtype_of, current_by, ahead_of_frames as ahead_of_frames_of, ahead_of_look as ahead_of_look_of, ahead_of_metrics as ahead_of_metrics_of};
+ghost use Rattle.pass_data.specs.FileEnd.{units_to_end as units_to_end_of, units_guessed as units_guessed_of};
+ghost use Rattle.pass_data.specs.Scales.{current_by};
+ghost use Rattle.ratecontrol.specs.SecondPass.{sees_the_end as sees_the_end_of, as_seen as as_seen_of, as_guessed as as_guessed_of, frames_by, frames_ahead as frames_ahead_of, scale_of_subtype as scale_of_subtype_of, ahead_of_frames as ahead_of_frames_of, ahead_of_look as ahead_of_look_of, ahead_of_metrics as ahead_of_metrics_of};
 
 use crate::ahead::Ahead;
 use crate::guess::{Guess, SubtypeGuess};
 use crate::state::RCState;
-use fixed_log::wide::{difference, product, saturated};
-use fixed_log::{bexp_q24, blog64, q24_to_q57, q57};
+use pass_data::file_end::{ends_within, is_before_end, units_guessed};
+use pass_data::scales::{current_scale, scale_ahead};
 use pass_data::{Header, LookAhead};
 
 /// The frames ahead in a second pass.
@@ -45,122 +44,6 @@ fn as_guessed(guess: &Guess) -> FramesAhead
     }
 }
 
-/// The temporal units from the start of the GOP to the end of the file.
-fn units_to_end(header: &Header, gop_start: u64) -> i128
-    ensures value { result ≡ units_to_end_of header.now gop_start }
-    ensures within { IsWithin (2 ^ 65) result }
-{
-    header.ntus as i128 - gop_start as i128
-}
-
-fn less_units(max_interval: i32, units: i128) -> i128
-    requires { IsWithin (2 ^ 65) units }
-    ensures { result ≡ max_interval -ℤ units }
-{
-    max_interval as i128 - units
-}
-
-fn units_missing(delay: i32, seen: i64) -> i128
-    ensures { result ≡ delay -ℤ seen }
-{
-    delay as i128 - seen as i128
-}
-
-fn lesser(a: i128, b: i128) -> i128
-    ensures value { result ≡ int_min a b }
-    ensures low { pos 0 ≤ℤ a → pos 0 ≤ℤ b → pos 0 ≤ℤ result }
-    ensures most { result ≤ℤ b }
-{
-    if a < b { a } else { b }
-}
-
-/// More units than are seen, as far as the delay.
-fn more_units(seen: i64, left: i32, delay: i32, by: i128) -> i32
-    requires low { pos 0 ≤ℤ by }
-    requires most { by ≤ℤ (delay -ℤ seen) }
-    requires left { left ≤ℤ seen }
-    ensures { result ≡ seen +ℤ by }
-{
-    let _ = (left, delay);
-    (seen as i128 + by) as i32
-}
-
-/// As many units as are seen, and the lesser of `more` and of what is missing to the delay.
-fn units_guessed(seen: i64, left: i32, delay: i32, more: i128) -> i32
-    requires more_low { pos 0 <ℤ more }
-    requires all { left ≤ℤ seen }
-    requires most { seen ≤ℤ delay }
-    ensures { result ≡ seen +ℤ int_min more (delay -ℤ seen) }
-{
-    more_units(seen, left, delay, lesser(more, units_missing(delay, seen)))
-}
-
-fn is_before_end(header: &Header, gop_start: u64) -> bool
-    ensures { result ≡ int_lt (pos gop_start) header.now.ntus }
-{
-    (gop_start as i128) < header.ntus as i128
-}
-
-fn ends_within(header: &Header, gop_start: u64, max_interval: i32) -> bool
-    ensures { result ≡ int_lt (units_to_end_of header.now gop_start) max_interval }
-{
-    units_to_end(header, gop_start) < max_interval as i128
-}
-
-/// The scales of frames that aren't counted.
-fn scales_of_others(last: i32, nframes: i32, count: i32) -> i128
-    ensures { result ≡ bexp_q24_of last *ℤ (nframes -ℤ count) }
-{
-    let others = difference::<31, 31>(nframes as i128, count as i128);
-    product::<47, 32>(bexp_q24(last) as i128, others)
-}
-
-fn sum_of_scales(sum: i128, others: i128) -> i64
-    ensures { result ≡ saturate_signed w64 (sum +ℤ others) }
-{
-    saturated(sum.saturating_add(others))
-}
-
-fn mean_of(log_sum: i64, log_count: i64) -> i64
-    ensures { result ≡ saturate_signed w64 (log_sum -ℤ log_count -ℤ q57_of (pos 24)) }
-{
-    let mean = difference::<63, 63>(log_sum as i128, log_count as i128);
-    saturated(difference::<64, 62>(mean, q57(24) as i128))
-}
-
-/// The mean scale of the frames of a subtype.
-fn mean_scale(sum: i128, count: i32, nframes: i32, last: i32) -> i64
-    ensures { result ≡ mean_scale_of sum count nframes last }
-{
-    let log_sum = blog64(sum_of_scales(sum, scales_of_others(last, nframes, count)));
-    mean_of(log_sum, blog64(nframes as i64))
-}
-
-fn opposite(log: i64) -> i64
-    ensures { result ≡ saturate_signed w64 (pos 0 -ℤ log) }
-{
-    saturated(-(log as i128))
-}
-
-fn scale_ahead(log_npixels: i64, sum: i128, count: i32, nframes: i32, last: i32) -> i64
-    ensures { result ≡ scale_ahead_of log_npixels sum count nframes last }
-{
-    if nframes > 0 {
-        mean_scale(sum, count, nframes, last)
-    } else {
-        opposite(log_npixels)
-    }
-}
-
-fn current(seen: Option<i32>, last: i32) -> i64
-    ensures { result ≡ current_by seen last }
-{
-    match seen {
-        Some(log_scale) => q24_to_q57(log_scale),
-        None => q24_to_q57(last),
-    }
-}
-
 impl RCState {
     fn sees_all(&self, look: &LookAhead) -> bool
         ensures { result ≡ int_le self.now.given.left.shown look.now.tus }
@@ -183,28 +66,6 @@ impl RCState {
             && ends_within(header, gop_start, max_interval)
     }
 
-    /// As many units as are seen, and more, as far as the key frame that would be due.
-    fn units_guessed(
-        &self,
-        header: &Header,
-        gop_start: u64,
-        max_interval: i32,
-        look: &LookAhead,
-    ) -> i32
-        requires all { self.now.given.left.shown ≤ℤ look.now.tus }
-        requires end { units_to_end_of header.now gop_start <ℤ max_interval }
-        requires most { look.now.tus ≤ℤ self.now.reservoir_delay }
-        ensures { result ≡ units_guessed_of self.now header.now gop_start max_interval look.now }
-    {
-        let more = less_units(max_interval, units_to_end(header, gop_start));
-        units_guessed(
-            look.tus,
-            self.given.left().shown,
-            self.reservoir_delay,
-            more,
-        )
-    }
-
     /// The guess of the frames ahead, as far as the key frame that would be due.
     fn guessed<G: SubtypeGuess>(
         &self,
@@ -218,9 +79,13 @@ impl RCState {
         requires most { look.now.tus ≤ℤ self.now.reservoir_delay }
         ensures frames { IsWithin (2 ^ 34) result.frames }
         ensures value { result ≡ as_guessed_of (G.guess guess.now
-            (units_guessed_of self.now header.now (G.gop_input_start guess.now) max_interval look.now)) }
+            (units_guessed_of header.now (G.gop_input_start guess.now) max_interval look.now.tus
+            self.now.reservoir_delay)) }
     {
-        let units = self.units_guessed(header, guess.gop_input_start(), max_interval, look);
+        let start = guess.gop_input_start();
+        let left = self.given.left().shown;
+        let delay = self.reservoir_delay;
+        let units = units_guessed(header, start, max_interval, look.tus, left, delay);
         as_guessed(&guess.guess(units))
     }
 
@@ -282,7 +147,7 @@ impl RCState {
         ensures { result ≡ current_by look.now.current
             (subtype_at self.now.subtypes fti).filter.y0 }
     {
-        current(look.current, self.subtypes[fti].last_answer())
+        current_scale(look.current, self.subtypes[fti].last_answer())
     }
 
     /// The frames ahead with their scales.

@@ -1,6 +1,6 @@
 use Rattle.std.proofs.Common.{◌≡◌, ◌-◌, ◌≤◌, length, drop}
 use Rattle.pass_data.specs.Pieces.{given_bytes, further}
-use Rattle.pass_data.proofs.given.GivenData.give.Given as goal
+use Rattle.pass_data.proofs.given.GivenData.give_all.Given as goal
 
 abbrev pub invariant-loop-taken : goal.invariant-loop-taken
 invariant-loop-taken l = record {

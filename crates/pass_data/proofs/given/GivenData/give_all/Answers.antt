@@ -3,7 +3,7 @@ use Rattle.std.specs.Int.{w128}
 use Rattle.std.specs.Prelude.{Ok, Err}
 use Rattle.pass_data.specs.Pieces.{given_bytes, further, part, answer, wants}
 use Rattle.pass_data.proofs.PieceLaws.{step_taken, step_refused, step_ended, begun}
-use Rattle.pass_data.proofs.given.GivenData.give.Goals as goal
+use Rattle.pass_data.proofs.given.GivenData.give_all.Goals as goal
 
 abbrev delay_of : ℤ → ℤ
 delay_of z = to_z w32 (of_z w32 z)
