@@ -1,5 +1,5 @@
 -- Parts of the state that change with what was given.
-use Rattle.std.proofs.Common.{◌≡◌, ℕ, Bool, true, cond, refl, sym, ◌∙◌, ap, subst, ℤ, is_some}
+use Rattle.std.proofs.Common.{◌≡◌, ℕ, Bool, true, cond, sym, ◌∙◌, ap, ℤ, is_some}
 use Rattle.std.specs.Prelude.{Option, Some, None, Result, Ok, Err, MatchResult, IfErr, IsSome, []}
 use Rattle.coding_base.specs.declared.memory.OutOfMemory.{OutOfMemory}
 use Rattle.pass_data.specs.declared.given.Header.{Header}

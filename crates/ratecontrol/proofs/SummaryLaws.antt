@@ -1,5 +1,5 @@
 -- A summary that is emitted is read back.
-use Rattle.std.proofs.Common.{◌≡◌, ℕ, ◌≤◌, List, length, take, refl, sym, ◌∙◌, ap, subst, arith, ℤ, IsFalse}
+use Rattle.std.proofs.Common.{ℕ, List, take, refl, sym, subst, arith, IsFalse}
 use Rattle.std.proofs.lemmas.List.{take_all}
 use Rattle.pass_stats.specs.Grammar.{any_negative, any_zero, frame_total}
 use Rattle.pass_stats.specs.Summary.{Summary, Spells}

@@ -1,10 +1,9 @@
 -- The calls of both passes.
-use Rattle.std.specs.Prelude.{◌≡◌, ◌↔◌, ℕ, ◌+◌, ◌-◌, ◌*◌, ◌^◌, nat_lt, not, Bool, true, ◌&&◌, ◌||◌, ◌⊎◌, List, [], ◌∷◌, length, slice_index, Option, Some, None, is_some, IsSome, IsFalse, Result, Ok, Err, MatchOption, ℤ, pos, ◌+ℤ◌, ◌-ℤ◌, ◌*ℤ◌, ◌≤ℤ◌, int_lt, if◌then◌else◌, unsigned_abs}
+use Rattle.std.specs.Prelude.{◌≡◌, ℕ, ◌+◌, ◌-◌, ◌*◌, ◌^◌, not, Bool, true, ◌&&◌, ◌||◌, ◌⊎◌, List, [], ◌∷◌, length, slice_index, Option, Some, None, is_some, IsSome, IsFalse, Result, Ok, Err, ℤ, pos, ◌+ℤ◌, ◌*ℤ◌, ◌≤ℤ◌, int_lt, if◌then◌else◌, unsigned_abs}
 use Rattle.std.specs.Option.{unwrap_or}
 use Rattle.std.specs.Int.{int_min}
 use Rattle.std.specs.Ordering.{int_eq}
 use Rattle.pass_stats.specs.Grammar.{any_negative, frame_total, key_frames}
-use Rattle.pass_stats.specs.Metric.{Metric}
 use Rattle.pass_stats.specs.Summary.{Spells}
 use Rattle.pass_stats.specs.declared.metrics.RCFrameMetrics.{RCFrameMetrics}
 use Rattle.pass_stats.specs.declared.summary.RCSummary.{RCSummary}
@@ -12,7 +11,7 @@ use Rattle.pass_data.specs.declared.error.PassDataError.{PassDataError}
 use Rattle.pass_data.specs.declared.error.PassDataError.TheVariants.{OutOfMemory}
 use Rattle.pass_data.specs.declared.given.Header.{Header}
 use Rattle.pass_data.specs.Emitted.{with_frame_emitted, summed_up}
-use Rattle.pass_data.specs.Given.{Given, needed, has_next, sent, verdict, with_values}
+use Rattle.pass_data.specs.Given.{Given, needed, has_next, with_values}
 use Rattle.pass_data.specs.Pieces.{given_bytes, answer}
 use Rattle.rate_model.specs.Subtype.{SubtypeRate, subtype_at}
 use Rattle.reservoir.specs.Levels.{reservoir_most, reservoir_target}

@@ -1,5 +1,5 @@
 -- The frames ahead in a second pass, from the metrics of those that are known.
-use Rattle.std.specs.Prelude.{ℕ, Bool, ◌&&◌, List, [], ◌∷◌, Option, Some, None, ℤ, pos, int_lt, int_le, if◌then◌else◌}
+use Rattle.std.specs.Prelude.{ℕ, Bool, ◌&&◌, [], ◌∷◌, Option, Some, None, ℤ, pos, int_lt, int_le, if◌then◌else◌}
 use Rattle.metrics_window.specs.Tallies.{number_at}
 use Rattle.pass_data.specs.FileEnd.{units_to_end, units_guessed}
 use Rattle.pass_data.specs.LookAhead.{look_ahead}

@@ -1,5 +1,5 @@
 -- The quantiser of a frame, from the base that the search found.
-use Rattle.std.specs.Prelude.{int_div, ℕ, ◌/◌, ◌^◌, ◌==◌, nat_lt, Bool, ◌&&◌, Option, Some, None, ℤ, pos, ◌+ℤ◌, ◌-ℤ◌, ◌*ℤ◌, int_lt, is_none, if◌then◌else◌}
+use Rattle.std.specs.Prelude.{int_div, ℕ, ◌^◌, ◌==◌, nat_lt, Bool, ◌&&◌, Option, Some, None, ℤ, pos, ◌+ℤ◌, ◌-ℤ◌, ◌*ℤ◌, int_lt, is_none, if◌then◌else◌}
 use Rattle.std.specs.Int.{int_shr, int_min, int_max, saturate_signed, w64}
 use Rattle.fixed_log.specs.Logarithm.{blog64}
 use Rattle.quantizers.specs.Tables.{Tables}

@@ -1,4 +1,4 @@
-use Rattle.std.proofs.Common.{◌≡◌, List, ℕ, take, sym, subst, ap}
+use Rattle.std.proofs.Common.{List, ℕ, take, sym, subst}
 use Rattle.std.specs.Prelude.{MatchResult, Result}
 use Rattle.pass_stats.specs.Summary.{Summary}
 use Rattle.pass_stats.specs.declared.summary.RCSummary.{RCSummary}

@@ -1,6 +1,4 @@
-use Rattle.std.proofs.Common.{◌≡◌, ℕ, rules, ap, ◌∙◌, sym, to_z, of_z, w32}
-use Rattle.std.specs.Prelude.{Option, Some, None}
-use Rattle.ratecontrol.specs.Rate.{Rate}
+use Rattle.std.proofs.Common.{◌≡◌, rules}
 use Rattle.ratecontrol.specs.Passes.{room_for}
 use Rattle.ratecontrol.specs.contracts.state.RCState.{the_view}
 use Rattle.ratecontrol.proofs.PassLaws.{window_taken, window_wanted}
