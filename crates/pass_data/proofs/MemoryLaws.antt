@@ -1,6 +1,6 @@
 -- Want of memory is no refusal of bytes.
-use Rattle.std.proofs.Common.{◌≡◌, ◌≢◌, ℕ, nat_lt, nat_le, Bool, true, false, cond, List, [], ◌∷◌, ◌++◌, length, refl, sym, ◌∙◌, ap, ℤ, is_some}
-use Rattle.std.specs.Prelude.{Option, Some, None, Ok, Err}
+use Rattle.std.proofs.Common.{◌≡◌, ◌≢◌, ℕ, nat_lt, nat_le, Bool, true, false, cond, List, [], ◌∷◌, ◌++◌, length, sym, ◌∙◌, ap, ℤ, is_some}
+use Rattle.std.specs.Prelude.{Option, Some, None, Err}
 use Rattle.pass_stats.specs.Metric.{subtype_at}
 use Rattle.pass_stats.specs.Summary.{first_met}
 use Rattle.pass_stats.specs.declared.error.Why.{Why}

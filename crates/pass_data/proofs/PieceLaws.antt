@@ -114,12 +114,16 @@ whole_bytes d c (b ∷ bs) (suc n) g h ends there =
 
 -- ---- a part
 
-abbrev part_of : ℕ → List ℕ → Given → Progress
-part_of n bs g =
-    cond (nat_lt (length (g.bytes ++ take n bs)) (goal g)) (record { given = with_held (g.bytes ++ take n bs) g; taken = n; refused = None })
-    (record { given = (with_whole (g.bytes ++ take n bs) g).given; taken = n; refused = (with_whole (g.bytes ++ take n bs) g).refused })
+abbrev pub progress_by : ℕ → Outcome → Progress
+progress_by n o = record { given = o.given; taken = n; refused = o.refused }
 
-part_is : (bs : List ℕ) (g : Given) → part bs g ≡ part_of (min (length bs) (goal g - length g.bytes)) bs g
+abbrev pub choice : Bool → ℕ → List ℕ → Given → Progress
+choice b n held g = cond b (record { given = with_held held g; taken = n; refused = None }) (progress_by n (with_whole held g))
+
+abbrev pub part_by : ℕ → List ℕ → Given → Progress
+part_by n bs g = choice (nat_lt (length (g.bytes ++ take n bs)) (goal g)) n (g.bytes ++ take n bs) g
+
+pub part_is : (bs : List ℕ) (g : Given) → part bs g ≡ part_by (min (length bs) (goal g - length g.bytes)) bs g
 unfolding part
 part_is bs g = refl
 
@@ -128,22 +132,20 @@ part_kept : (bs : List ℕ) (g : Given) → length g.bytes + length bs < goal g
 part_kept bs g short =
     let all : min (length bs) (goal g - length g.bytes) ≡ length bs = omega arith in
     let fits : length (g.bytes ++ bs) < goal g = omega (arith, length-append g.bytes bs) in
-    part_is bs g
-    ∙ (ap (λ n. part_of n bs g) all
-    ∙ (ap (λ (xs : List ℕ). cond (nat_lt (length (g.bytes ++ xs)) (goal g)) (record { given = with_held (g.bytes ++ xs) g; taken = length bs; refused = None })
-    (record { given = (with_whole (g.bytes ++ xs) g).given; taken = length bs; refused = (with_whole (g.bytes ++ xs) g).refused })) (take_all (length bs) bs (omega arith))
-    ∙ ap (λ w. cond w (record { given = with_held (g.bytes ++ bs) g; taken = length bs; refused = None })
-    (record { given = (with_whole (g.bytes ++ bs) g).given; taken = length bs; refused = (with_whole (g.bytes ++ bs) g).refused })) (test_true (length (g.bytes ++ bs)) (goal g) fits)))
+    let whole : part_by (length bs) bs g ≡ choice (nat_lt (length (g.bytes ++ bs)) (goal g)) (length bs) (g.bytes ++ bs) g =
+    ap (λ (xs : List ℕ). choice (nat_lt (length (g.bytes ++ xs)) (goal g)) (length bs) (g.bytes ++ xs) g) (take_all (length bs) bs (omega arith)) in
+    let short_is : choice (nat_lt (length (g.bytes ++ bs)) (goal g)) (length bs) (g.bytes ++ bs) g ≡ choice true (length bs) (g.bytes ++ bs) g =
+    ap (λ w. choice w (length bs) (g.bytes ++ bs) g) (test_true (length (g.bytes ++ bs)) (goal g) fits) in
+    let first : part bs g ≡ part_by (length bs) bs g = part_is bs g ∙ ap (λ n. part_by n bs g) all in
+    first ∙ (whole ∙ short_is)
 
 part_whole : (bs : List ℕ) (n : ℕ) (g : Given) → length g.bytes + n ≡ goal g → n ≤ length bs
-    → part bs g ≡ record { given = (with_whole (g.bytes ++ take n bs) g).given; taken = n; refused = (with_whole (g.bytes ++ take n bs) g).refused }
+    → part bs g ≡ progress_by n (with_whole (g.bytes ++ take n bs) g)
 part_whole bs n g ends there =
     let all : min (length bs) (goal g - length g.bytes) ≡ n = omega arith in
     let whole : goal g ≤ length (g.bytes ++ take n bs) = omega (arith, length-append g.bytes (take n bs), length-take n bs) in
-    part_is bs g
-    ∙ (ap (λ n. part_of n bs g) all
-    ∙ ap (λ w. cond w (record { given = with_held (g.bytes ++ take n bs) g; taken = n; refused = None })
-    (record { given = (with_whole (g.bytes ++ take n bs) g).given; taken = n; refused = (with_whole (g.bytes ++ take n bs) g).refused })) (test_false (length (g.bytes ++ take n bs)) (goal g) whole))
+    let first : part bs g ≡ part_by n bs g = part_is bs g ∙ ap (λ k. part_by k bs g) all in
+    first ∙ ap (λ w. choice w n (g.bytes ++ take n bs) g) (test_false (length (g.bytes ++ take n bs)) (goal g) whole)
 
 abbrev through : ℤ → ℤ → List ℕ → Progress → Progress
 through d c bs p = then_given p.taken (given_bytes d c (drop p.taken bs)) p.given p.refused

@@ -1,7 +1,6 @@
 -- What the code does with bytes that are whole, and with bytes that aren't.
-use Rattle.std.proofs.Common.{◌≡◌, ℕ, ◌-◌, ◌<◌, ◌≤◌, min, nat_lt, nat_le, ◌^◌, Bool, true, false, cond, List, [], ◌∷◌, ◌++◌, length, take, length-append, length-take, refl, sym, ◌∙◌, ap, subst, arith, ℤ, is_some}
+use Rattle.std.proofs.Common.{◌≡◌, ℕ, ◌-◌, ◌<◌, ◌≤◌, min, nat_lt, Bool, true, false, cond, List, [], ◌++◌, length, take, length-append, length-take, refl, sym, ◌∙◌, ap, subst, arith, ℤ, is_some}
 use Rattle.std.proofs.lemmas.List.{take_all}
-use Rattle.std.proofs.lemmas.Bool.Decides.{nat_tests}
 use Rattle.std.specs.Prelude.{Option, Some, None, Ok, Err, Result}
 use Rattle.pass_stats.specs.Bytes.{i32_at}
 use Rattle.pass_stats.specs.Grammar.{frame_total}
@@ -10,25 +9,12 @@ use Rattle.pass_stats.specs.Summary.{Spells, first_met, counts_at, exponents_at,
 use Rattle.pass_stats.specs.declared.error.Why.{Why}
 use Rattle.pass_stats.specs.declared.metrics.RCFrameMetrics.{RCFrameMetrics}
 use Rattle.pass_data.specs.declared.error.PassDataError.{PassDataError}
-use Rattle.pass_data.specs.Given.{Given, Outcome, goal, goal_by, taken, refused, with_metrics, with_packet_bytes, with_summary_bytes, with_summary_by, with_values, metrics_at, bad_packet, refusal_by, verdict}
+use Rattle.pass_data.specs.Given.{Given, Outcome, goal, taken, refused, with_metrics, with_packet_bytes, with_summary_bytes, with_summary_by, with_values, metrics_at, bad_packet, refusal_by, verdict}
 use Rattle.pass_data.specs.Pieces.{with_whole, Progress, part, answer, answer_by}
-use Rattle.pass_data.proofs.PieceLaws.{test_true, test_false}
+use Rattle.pass_data.proofs.PieceLaws.{progress_by, choice, part_by, part_is, test_true, test_false}
 
 abbrev pub emptied : Given → Given
 emptied g = record g { bytes = [] }
-
-abbrev progress_by : ℕ → Outcome → Progress
-progress_by n o = record { given = o.given; taken = n; refused = o.refused }
-
-abbrev choice : Bool → ℕ → List ℕ → Given → Progress
-choice b n held g = cond b (record { given = record g { bytes = held }; taken = n; refused = None }) (progress_by n (with_whole held g))
-
-abbrev part_by : ℕ → List ℕ → Given → Progress
-part_by n bs g = choice (nat_lt (length (g.bytes ++ take n bs)) (goal g)) n (g.bytes ++ take n bs) g
-
-part_is : (bs : List ℕ) (g : Given) → part bs g ≡ part_by (min (length bs) (goal g - length g.bytes)) bs g
-unfolding part
-part_is bs g = refl
 
 -- the bytes that were taken, and those that are held
 pub record IsFilled (size n : ℕ) (bs held : List ℕ) (g : Given) : Type 0 where

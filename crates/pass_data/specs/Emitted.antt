@@ -1,5 +1,5 @@
 -- What a first pass emitted.
-use Rattle.std.specs.Prelude.{ℕ, ◌^◌, ◌≤◌, nat_lt, Bool, true, List, slice_set, Option, Some, None, IfSome, IsFalse, ℤ, pos, ◌+ℤ◌, if◌then◌else◌}
+use Rattle.std.specs.Prelude.{◌≤◌, nat_lt, Bool, true, List, slice_set, Option, Some, None, IfSome, IsFalse, ℤ, pos, ◌+ℤ◌, if◌then◌else◌}
 use Rattle.std.specs.Int.{saturate_signed, w32, w64}
 use Rattle.pass_stats.specs.Grammar.{any_negative}
 use Rattle.pass_stats.specs.declared.metrics.RCFrameMetrics.{RCFrameMetrics}

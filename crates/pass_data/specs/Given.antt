@@ -1,5 +1,5 @@
 -- What a second pass was given: the summary, and the metrics of frames.
-use Rattle.std.specs.Prelude.{◌≡◌, ℕ, ◌^◌, ◌<◌, ◌≤◌, ◌==◌, nat_lt, nat_le, Bool, ◌&&◌, List, [], length, slice_get, Option, Some, None, is_some, IfSome, Result, Ok, Err, ℤ, pos, ◌-ℤ◌, ◌≤ℤ◌, int_lt, int_le, IsFalse, if◌then◌else◌}
+use Rattle.std.specs.Prelude.{ℕ, ◌^◌, ◌<◌, ◌≤◌, ◌==◌, nat_lt, nat_le, Bool, ◌&&◌, List, [], length, slice_get, Option, Some, None, is_some, IfSome, Result, Ok, Err, ℤ, pos, ◌-ℤ◌, ◌≤ℤ◌, int_le, IsFalse, if◌then◌else◌}
 use Rattle.std.specs.Int.{int_min, int_max}
 use Rattle.pass_stats.specs.Bytes.{i32_at, u32_at}
 use Rattle.pass_stats.specs.Grammar.{any_zero, frame_total}

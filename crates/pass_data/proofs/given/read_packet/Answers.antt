@@ -1,4 +1,4 @@
-use Rattle.std.proofs.Common.{◌≡◌, refl}
+use Rattle.std.proofs.Common.{refl}
 use Rattle.pass_data.proofs.WholeLaws.{metric_is, bad_is}
 use Rattle.pass_data.proofs.given.read_packet.Goals as goal
 

@@ -1,8 +1,7 @@
-use Rattle.std.proofs.Common.{◌≡◌, ◌+◌, ◌<◌, ◌≤◌, true, false, length, drop, List, ℕ, ℤ, refl, sym, ◌∙◌, ap, subst, arith, rules, inl, inr, to_z, of_z, w32}
+use Rattle.std.proofs.Common.{◌≡◌, ◌+◌, ◌<◌, ◌≤◌, true, false, length, drop, List, ℕ, ℤ, sym, ◌∙◌, ap, arith, rules, inl, inr, to_z, of_z, w32}
 use Rattle.std.specs.Int.{w128}
-use Rattle.std.specs.Prelude.{Ok, Err}
 use Rattle.pass_data.specs.Pieces.{given_bytes, further, part, answer, wants}
-use Rattle.pass_data.proofs.PieceLaws.{step_taken, step_refused, step_ended, begun}
+use Rattle.pass_data.proofs.PieceLaws.{step_taken, step_refused, step_ended}
 use Rattle.pass_data.proofs.given.GivenData.give_all.Goals as goal
 
 abbrev delay_of : ℤ → ℤ

@@ -1,6 +1,6 @@
-use Rattle.std.proofs.Common.{◌≡◌, ◌≤◌, ◌<◌, nat_lt, true, false, length, ap, sym, ◌∙◌, arith, rules, is_some, List, ℕ}
+use Rattle.std.proofs.Common.{◌≡◌, ◌≤◌, ◌<◌, nat_lt, true, false, length, ap, sym, ◌∙◌, arith, is_some, List, ℕ}
 use Rattle.pass_stats.specs.Metric.{subtype_at}
-use Rattle.pass_data.specs.Given.{goal_by, metrics_at, bad_packet}
+use Rattle.pass_data.specs.Given.{goal_by, metrics_at}
 use Rattle.pass_data.proofs.WholeLaws.{still_short, packet_refused, packet_taken, told_taken, told_refused}
 use Rattle.pass_data.proofs.given.GivenData.give_to_packet.Goals as goal
 

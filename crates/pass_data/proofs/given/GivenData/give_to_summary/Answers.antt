@@ -1,6 +1,5 @@
-use Rattle.std.proofs.Common.{◌≡◌, ◌≤◌, ◌<◌, false, length, take, ap, sym, ◌∙◌, arith, rules, subst, is_some, List, ℕ}
-use Rattle.std.specs.Prelude.{Option, Some, None}
-use Rattle.pass_data.specs.declared.error.PassDataError.{PassDataError}
+use Rattle.std.proofs.Common.{◌≡◌, ◌≤◌, ◌<◌, false, length, take, ap, sym, ◌∙◌, arith, subst, is_some, List, ℕ}
+use Rattle.std.specs.Prelude.{Some, None}
 use Rattle.pass_stats.specs.Summary.{Spells, first_met}
 use Rattle.pass_data.specs.Given.{goal_by, refusal_by}
 use Rattle.pass_data.proofs.WholeLaws.{still_short, summary_refused, summary_taken}
