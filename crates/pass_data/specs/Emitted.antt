@@ -21,7 +21,8 @@ pub record IsEmitted (scales : List ℤ) (last : Option RCFrameMetrics) : Type 0
 -- sums stop at the end of 64 bits, and the shown count at that of 32 bits
 abbrev pub sums_with : RCFrameMetrics → List ℤ → List ℤ
 sums_with m sums =
-    if nat_lt m.fti 4 then slice_set sums m.fti (saturate_signed w64 (number_at sums m.fti +ℤ scale_of m)) else sums
+    if nat_lt m.fti 4 then slice_set sums m.fti (saturate_signed w64 (number_at sums m.fti +ℤ scale_of m))
+    else sums
 
 abbrev pub shown_with : RCFrameMetrics → ℤ → ℤ
 shown_with m tus = if m.show_frame then saturate_signed w32 (tus +ℤ pos 1) else tus
@@ -29,7 +30,8 @@ shown_with m tus = if m.show_frame then saturate_signed w32 (tus +ℤ pos 1) els
 -- the waiting metrics are taken
 abbrev pub emitted_by : Option RCFrameMetrics → Emitted → Emitted
 emitted_by None e = e
-emitted_by (Some m) e = record e { sums = sums_with m e.sums; tus = shown_with m e.tus; waiting = None }
+emitted_by (Some m) e =
+    record e { sums = sums_with m e.sums; tus = shown_with m e.tus; waiting = None }
 
 unfoldable pub with_frame_emitted : Emitted → Emitted
 with_frame_emitted e = emitted_by e.waiting e

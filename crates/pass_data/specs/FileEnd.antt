@@ -9,4 +9,5 @@ units_to_end h gop_start = h.ntus -ℤ pos gop_start
 
 -- as many as are seen, and more, as far as the key frame that would be due, and as the delay
 abbrev pub units_guessed : Header → ℕ → ℤ → ℤ → ℤ → ℤ
-units_guessed h gop_start max_interval seen delay = seen +ℤ int_min (max_interval -ℤ units_to_end h gop_start) (delay -ℤ seen)
+units_guessed h gop_start max_interval seen delay =
+    seen +ℤ int_min (max_interval -ℤ units_to_end h gop_start) (delay -ℤ seen)

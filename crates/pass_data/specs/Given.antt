@@ -47,7 +47,8 @@ abbrev pub current : Given → Option RCFrameMetrics
 current g = if g.is_finite then slice_get g.window.held 0 else g.next
 
 abbrev pub without_metrics : RCFrameMetrics → Given → Given
-without_metrics m g = record g { left = less m g.left; window = without_first g.window; next = None }
+without_metrics m g =
+    record g { left = less m g.left; window = without_first g.window; next = None }
 
 -- the frame is coded
 abbrev pub coded_by : Option RCFrameMetrics → Given → Given
@@ -62,12 +63,15 @@ coded g = coded_by (current g) g
 -- a window looks so many temporal units ahead, but not past the summary's frames
 abbrev pub needed_in_window : ℤ → Header → Given → ℤ
 needed_in_window delay h g =
-    int_max (int_min (int_min delay h.ntus -ℤ shown_of g.window.held) (all_frames g.left -ℤ pos (length g.window.held))) (pos 0)
+    let units = int_min delay h.ntus -ℤ shown_of g.window.held in
+    let frames = all_frames g.left -ℤ pos (length g.window.held) in
+    int_max (int_min units frames) (pos 0)
 
 abbrev pub needed_by_header : ℤ → ℤ → Header → Given → ℤ
 needed_by_header delay commands h g =
     if int_le h.total commands then pos 0
-    else (if g.is_finite then needed_in_window delay h g else (if is_some g.next then pos 0 else pos 1))
+    else (if g.is_finite then needed_in_window delay h g
+    else (if is_some g.next then pos 0 else pos 1))
 
 abbrev pub needed_by : Option Header → ℤ → ℤ → Given → ℤ
 needed_by None delay commands g = pos 0
@@ -78,7 +82,8 @@ needed delay commands g = needed_by g.header delay commands g
 
 -- the next frame's metrics are there
 abbrev pub has_next : ℤ → Given → Bool
-has_next needed g = if g.is_finite then (int_le needed (pos 0) && nat_lt 0 (length g.window.held)) else is_some g.next
+has_next needed g =
+    if g.is_finite then (int_le needed (pos 0) && nat_lt 0 (length g.window.held)) else is_some g.next
 
 -- ---- what is taken, and what is refused
 
@@ -103,14 +108,19 @@ with_metrics m g = if g.is_finite then into_window m g else taken (record g { ne
 -- the metrics that 8 bytes stand for
 abbrev pub metrics_at : List ℕ → RCFrameMetrics
 metrics_at bytes =
-    record { log_scale_q24 = i32_at bytes 4; fti = subtype_at bytes; show_frame = nat_le (2 ^ 31) (u32_at bytes 0) }
+    record {
+      log_scale_q24 = i32_at bytes 4;
+      fti = subtype_at bytes;
+      show_frame = nat_le (2 ^ 31) (u32_at bytes 0);
+    }
 
 abbrev pub bad_packet : List ℕ → PassDataError
 bad_packet bytes = BadPacket (record { value = subtype_at bytes })
 
 abbrev pub with_packet_bytes : List ℕ → Given → Outcome
 with_packet_bytes bytes g =
-    if nat_lt 4 (subtype_at bytes) then refused (bad_packet bytes) g else with_metrics (metrics_at bytes) g
+    if nat_lt 4 (subtype_at bytes) then refused (bad_packet bytes) g
+    else with_metrics (metrics_at bytes) g
 
 -- no bytes are kept that came before a summary
 abbrev pub with_values : ℤ → List ℤ → List ℕ → List ℤ → ℤ → Given → Given
@@ -127,7 +137,9 @@ refusal_by (Some why) = Some (Corrupted why)
 abbrev pub with_summary_by : Option Why → List ℕ → Given → Outcome
 with_summary_by (Some why) bytes g = refused (Corrupted why) g
 with_summary_by None bytes g =
-    taken (with_values (i32_at bytes 8) (counts_at bytes) (exponents_at bytes) (sums_at bytes) (frame_total (counts_at bytes)) g)
+    taken
+    (with_values (i32_at bytes 8) (counts_at bytes) (exponents_at bytes) (sums_at bytes)
+    (frame_total (counts_at bytes)) g)
 
 abbrev pub with_summary_bytes : List ℕ → Given → Outcome
 with_summary_bytes bytes g = with_summary_by (first_met bytes) bytes g

@@ -14,7 +14,9 @@ seen g = if g.is_finite then tally_of (before_last_key g.window.held) else g.lef
 
 -- the temporal units: those of the frames from that key frame on don't count
 abbrev pub units_seen : ℤ → Given → ℤ
-units_seen delay g = int_min delay g.left.shown -ℤ (if g.is_finite then shown_of (from_last_key g.window.held) else pos 0)
+units_seen delay g =
+    int_min delay g.left.shown
+    -ℤ (if g.is_finite then shown_of (from_last_key g.window.held) else pos 0)
 
 -- the frame that is coded now has metrics of its own subtype, or is none of those that are counted
 abbrev pub scale_by : Option RCFrameMetrics → ℕ → Option ℤ

@@ -17,14 +17,16 @@ pub data Event : Type 0 where
 
 abbrev pub given_after : List Event → Given → Given
 given_after [] g = g
-given_after (Piece delay commands bytes ∷ es) g = given_after es (given_bytes delay commands bytes g).given
+given_after (Piece delay commands bytes ∷ es) g =
+    given_after es (given_bytes delay commands bytes g).given
 given_after (Frame ∷ es) g = given_after es (coded g)
 
 -- the bytes that were taken, joined
 abbrev pub joined : List Event → Given → List ℕ
 joined [] g = []
 joined (Piece delay commands bytes ∷ es) g =
-    take (given_bytes delay commands bytes g).taken bytes ++ joined es (given_bytes delay commands bytes g).given
+    take (given_bytes delay commands bytes g).taken bytes
+    ++ joined es (given_bytes delay commands bytes g).given
 joined (Frame ∷ es) g = joined es (coded g)
 
 abbrev pub frames_coded : List Event → ℕ
@@ -36,7 +38,8 @@ frames_coded (Frame ∷ es) = suc (frames_coded es)
 abbrev pub AllTaken : List Event → Given → Type 0
 AllTaken [] g = Unit {0}
 AllTaken (Piece delay commands bytes ∷ es) g =
-    ((given_bytes delay commands bytes g).refused ≡ None) × AllTaken es (given_bytes delay commands bytes g).given
+    ((given_bytes delay commands bytes g).refused ≡ None)
+    × AllTaken es (given_bytes delay commands bytes g).given
 AllTaken (Frame ∷ es) g = (0 < length g.window.held) × AllTaken es (coded g)
 
 -- metrics are read into a window: there is a summary

@@ -10,11 +10,13 @@ wants delay commands g = not (is_some g.header) || int_lt (pos 0) (needed delay 
 -- a whole summary, or the whole metrics of a frame, leave no bytes, whether they are taken or refused
 abbrev pub with_whole : List ℕ → Given → Outcome
 with_whole bytes g =
-    if is_some g.header then with_packet_bytes bytes (record g { bytes = [] }) else with_summary_bytes bytes (record g { bytes = [] })
+    if is_some g.header then with_packet_bytes bytes (record g { bytes = [] })
+    else with_summary_bytes bytes (record g { bytes = [] })
 
 unfoldable pub with_byte : ℕ → Given → Outcome
 with_byte b g =
-    if nat_lt (length (g.bytes ++ b ∷ [])) (goal g) then taken (record g { bytes = g.bytes ++ b ∷ [] })
+    if nat_lt (length (g.bytes ++ b ∷ [])) (goal g)
+    then taken (record g { bytes = g.bytes ++ b ∷ [] })
     else with_whole (g.bytes ++ b ∷ []) g
 
 -- how far giving came: what was given, how many bytes were taken, and what was refused
@@ -45,7 +47,11 @@ part bytes g =
     let n = min (length bytes) (goal g - length g.bytes) in
     if nat_lt (length (g.bytes ++ take n bytes)) (goal g) then
     record { given = record g { bytes = g.bytes ++ take n bytes }; taken = n; refused = None }
-    else record { given = (with_whole (g.bytes ++ take n bytes) g).given; taken = n; refused = (with_whole (g.bytes ++ take n bytes) g).refused }
+    else record {
+      given = (with_whole (g.bytes ++ take n bytes) g).given;
+      taken = n;
+      refused = (with_whole (g.bytes ++ take n bytes) g).refused;
+    }
 
 abbrev pub answer_by : ℕ → Option PassDataError → Result ℕ PassDataError
 answer_by n None = Ok n

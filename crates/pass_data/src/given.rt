@@ -238,8 +238,8 @@ impl GivenData {
 
     /// Takes the summary. What was held of another one is let go.
     pub fn set_up(&mut self, s: &RCSummary)
-        ensures { self.new ≡ with_values s.now.ntus s.now.nframes s.now.exp s.now.scale_sum s.now.total
-            self.old }
+        ensures { self.new ≡ with_values s.now.ntus s.now.nframes s.now.exp s.now.scale_sum
+            s.now.total self.old }
     {
         self.bytes.take();
         self.header = Some(Header {

@@ -35,10 +35,13 @@ room_for delay = unsigned_abs (pos 2 *ℤ delay +ℤ pos 8)
 
 abbrev pub with_buffer : Option ℤ → Given → Given
 with_buffer None given = given
-with_buffer (Some delay) given = record given { is_finite = true; window = record { held = []; capacity = room_for delay } }
+with_buffer (Some delay) given =
+    record given { is_finite = true; window = record { held = []; capacity = room_for delay } }
 
 abbrev pub in_second : Rate → Rate
-in_second rate = if rate.second then rate else record rate { second = true; given = with_buffer rate.set_delay rate.given }
+in_second rate =
+    if rate.second then rate
+    else record rate { second = true; given = with_buffer rate.set_delay rate.given }
 
 -- want of memory: only where the window isn't taken yet, and then nothing changes
 pub record WantsMemory (old new : Rate) : Type 0 where
@@ -50,18 +53,22 @@ pub record WantsMemory (old new : Rate) : Type 0 where
 
 abbrev pub frames_needed : Rate → ℤ
 frames_needed rate =
-    if rate.second && is_controlled rate then needed rate.reservoir_delay (commands rate) rate.given else pos 0
+    if rate.second && is_controlled rate
+    then needed rate.reservoir_delay (commands rate) rate.given else pos 0
 
 -- the last frame's data was taken, and the next frame's is there
 abbrev pub is_ready : Rate → Bool
-is_ready rate = not (rate.first && is_some rate.emitted.waiting) && (not rate.second || has_next (frames_needed rate) rate.given)
+is_ready rate =
+    not (rate.first && is_some rate.emitted.waiting)
+    && (not rate.second || has_next (frames_needed rate) rate.given)
 
 abbrev pub with_exponent : List ℕ → List SubtypeRate → ℕ → SubtypeRate
 with_exponent exp subtypes j = record (subtype_at subtypes j) { exponent = slice_index exp j }
 
 abbrev pub with_exponents : List ℕ → List SubtypeRate → List SubtypeRate
 with_exponents exp subtypes =
-    with_exponent exp subtypes 0 ∷ with_exponent exp subtypes 1 ∷ with_exponent exp subtypes 2 ∷ with_exponent exp subtypes 3 ∷ []
+    with_exponent exp subtypes 0 ∷ with_exponent exp subtypes 1 ∷ with_exponent exp subtypes 2
+    ∷ with_exponent exp subtypes 3 ∷ []
 
 -- a whole file's reservoir is evened out over all of it
 abbrev pub over_the_file : Header → Rate → Rate
@@ -87,7 +94,8 @@ set_up_by (Some h) rate = set_up h rate
 
 -- what was given has changed; a header that wasn't there before sets the state up
 abbrev pub with_given : Given → Rate → Rate
-with_given g rate = set_up_by (if is_some rate.given.header then None else g.header) (record rate { given = g })
+with_given g rate =
+    set_up_by (if is_some rate.given.header then None else g.header) (record rate { given = g })
 
 abbrev pub with_summary : RCSummary → Rate → Rate
 with_summary s rate =
@@ -103,7 +111,8 @@ is_open rate = is_controlled rate && (is_some rate.given.header || int_eq (comma
 -- how many bytes are wanted: a summary with the first frames' metrics, or what is missing of the metrics that are needed
 abbrev pub bytes_wanted : Rate → ℕ
 bytes_wanted rate =
-    if is_some rate.given.header then unsigned_abs (frames_needed rate) * 8 - length rate.given.bytes
+    if is_some rate.given.header
+    then unsigned_abs (frames_needed rate) * 8 - length rate.given.bytes
     else 68 + 8 * (if rate.given.is_finite then unsigned_abs rate.reservoir_delay else 1)
 
 pub record Answered : Type 0 where
@@ -118,14 +127,17 @@ given_in bytes rate =
 -- both turn the pass, but not where nothing can be given
 abbrev pub asked : Rate → Answered
 asked rate =
-    if is_open rate then record { rate = in_second rate; answer = Ok (bytes_wanted (in_second rate)) }
+    if is_open rate
+    then record { rate = in_second rate; answer = Ok (bytes_wanted (in_second rate)) }
     else record { rate = rate; answer = Ok 0 }
 
 abbrev pub taken_in : List ℕ → Rate → Answered
-taken_in bytes rate = if is_open rate then given_in bytes (in_second rate) else record { rate = rate; answer = Ok 0 }
+taken_in bytes rate =
+    if is_open rate then given_in bytes (in_second rate) else record { rate = rate; answer = Ok 0 }
 
 abbrev pub IsAnswered : Answered → Rate → Rate → Result ℕ PassDataError → Type 0
-IsAnswered a old new result = ((new ≡ a.rate) × (result ≡ a.answer)) ⊎ (WantsMemory old new × (result ≡ Err OutOfMemory))
+IsAnswered a old new result =
+    ((new ≡ a.rate) × (result ≡ a.answer)) ⊎ (WantsMemory old new × (result ≡ Err OutOfMemory))
 
 -- ---- the first pass
 
@@ -137,24 +149,26 @@ abbrev pub frame_emitted : Rate → Option RCFrameMetrics
 frame_emitted rate = if can_emit rate then rate.emitted.waiting else None
 
 abbrev pub after_frame_emitted : Rate → Rate
-after_frame_emitted rate = record rate { emitted = if can_emit rate then with_frame_emitted rate.emitted else rate.emitted }
+after_frame_emitted rate =
+    record rate { emitted = if can_emit rate then with_frame_emitted rate.emitted else rate.emitted }
 
 -- the counts and exponents of a summary
 abbrev pub counts_coded : Rate → List ℤ
 counts_coded rate =
-    (subtype_at rate.subtypes 0).frames ∷ (subtype_at rate.subtypes 1).frames ∷ (subtype_at rate.subtypes 2).frames
-    ∷ (subtype_at rate.subtypes 3).frames ∷ rate.shows ∷ []
+    (subtype_at rate.subtypes 0).frames ∷ (subtype_at rate.subtypes 1).frames
+    ∷ (subtype_at rate.subtypes 2).frames ∷ (subtype_at rate.subtypes 3).frames ∷ rate.shows ∷ []
 
 abbrev pub exponents_of : Rate → List ℕ
 exponents_of rate =
-    (subtype_at rate.subtypes 0).exponent ∷ (subtype_at rate.subtypes 1).exponent ∷ (subtype_at rate.subtypes 2).exponent
-    ∷ (subtype_at rate.subtypes 3).exponent ∷ []
+    (subtype_at rate.subtypes 0).exponent ∷ (subtype_at rate.subtypes 1).exponent
+    ∷ (subtype_at rate.subtypes 2).exponent ∷ (subtype_at rate.subtypes 3).exponent ∷ []
 
 abbrev pub after_summary : Rate → Rate
 after_summary rate = record rate { emitted = summed_up rate.emitted }
 
 abbrev pub IsSummaryOf : Rate → List ℕ → Type 0
-IsSummaryOf rate bytes = Spells bytes rate.emitted.tus (counts_coded rate) (exponents_of rate) rate.emitted.sums
+IsSummaryOf rate bytes =
+    Spells bytes rate.emitted.tus (counts_coded rate) (exponents_of rate) rate.emitted.sums
 
 -- where the temporal units and the counts may be those of a summary
 pub record HasCounts (tus : ℤ) (counts : List ℤ) : Type 0 where
@@ -166,15 +180,19 @@ pub record HasCounts (tus : ℤ) (counts : List ℤ) : Type 0 where
 
 abbrev pub IsReadBack : Rate → RCSummary → Type 0
 IsReadBack rate s =
-    (s.ntus ≡ rate.emitted.tus) × (s.nframes ≡ counts_coded rate) × (s.exp ≡ exponents_of rate) × (s.scale_sum ≡ rate.emitted.sums)
+    (s.ntus ≡ rate.emitted.tus) × (s.nframes ≡ counts_coded rate)
+    × (s.exp ≡ exponents_of rate) × (s.scale_sum ≡ rate.emitted.sums)
 
 -- what is given out: the frame's data that waits, or, at the end, the summary, once
 abbrev pub gives_frame : Rate → Bool
 gives_frame rate = is_controlled rate && is_some rate.emitted.waiting
 
 abbrev pub gives_summary : Bool → Rate → Bool
-gives_summary done rate = is_controlled rate && (not (is_some rate.emitted.waiting) && (done && not rate.emitted.is_summed_up))
+gives_summary done rate =
+    is_controlled rate
+    && (not (is_some rate.emitted.waiting) && (done && not rate.emitted.is_summed_up))
 
 abbrev pub given_out : Bool → Rate → Rate
 given_out done rate =
-    if gives_frame rate then after_frame_emitted rate else (if gives_summary done rate then after_summary rate else rate)
+    if gives_frame rate then after_frame_emitted rate
+    else (if gives_summary done rate then after_summary rate else rate)

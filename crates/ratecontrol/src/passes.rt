@@ -72,7 +72,9 @@ impl RCState {
 
     fn take_buffer(&mut self) -> Result<(), OutOfMemory>
         ensures state { MatchResult result
-            (λ _. self.new ≡ record self.old { given = with_buffer self.old.set_delay self.old.given })
+            (λ _. self.new ≡ record self.old {
+              given = with_buffer self.old.set_delay self.old.given;
+            })
             (λ _. self.new ≡ self.old) }
         ensures window { IfErr result (λ _. IsSome self.old.set_delay) }
     {
@@ -246,8 +248,8 @@ impl RCState {
     }
 
     fn take_bytes(&mut self, bytes: &[u8]) -> Result<usize, PassDataError>
-        ensures given { let p = given_bytes self.old.reservoir_delay (commands_of self.old) bytes.now
-            self.old.given in
+        ensures given { let p = given_bytes self.old.reservoir_delay (commands_of self.old)
+            bytes.now self.old.given in
             (self.new ≡ record self.old { given = p.given }) × (result ≡ answer p) }
         ensures never_memory { result ≢ Err PassDataError.OutOfMemory }
     {
@@ -325,7 +327,8 @@ impl RCState {
     ///
     /// The first of `WrongSize`, `BadPacket`, `NotNeeded` and `TooManyFrames` that holds.
     pub fn send_packet(&mut self, bytes: &[u8]) -> Result<(), PassDataError>
-        ensures { let o = sent (int_lt (pos 0) (frames_needed_of self.old)) bytes.now self.old.given in
+        ensures { let is_needed = int_lt (pos 0) (frames_needed_of self.old) in
+            let o = sent is_needed bytes.now self.old.given in
             (self.new ≡ record self.old { given = o.given }) × (result ≡ verdict o.refused) }
     {
         let is_needed = self.twopass_in_frames_needed() > 0;
