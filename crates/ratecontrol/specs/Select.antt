@@ -111,15 +111,20 @@ select_flat settings tables subtype mean_scale =
 -- a first pass by itself: its base, and a mean scale of 0
 unfoldable pub select_first : Rate → QSettings → Tables → ℕ → QuantizerParameters
 select_first rate settings tables subtype =
-    parameters tables settings (record { base = rate.first_base; target = saturate_signed w64 (modulated rate.first_base subtype) }) (pos 0)
-    (subtype == 0) None
+    let target = saturate_signed w64 (modulated rate.first_base subtype) in
+    let q : LogQuantizer = record { base = rate.first_base; target = target } in
+    parameters tables settings q (pos 0) (subtype == 0) None
 
 -- a session with both passes goes by the second
 abbrev pub select : Rate → QSettings → Tables → (ℤ → Guess) → ℕ → ℕ → Option ℤ → ℤ → QuantizerParameters
 select rate settings tables guess gop_start subtype previous mean_scale =
     if int_lt (pos 0) rate.bitrate then
     (if rate.second
-    then select_ahead rate settings tables (ahead_of_metrics rate guess gop_start settings.max_key_frame_interval subtype) subtype previous mean_scale
+    then
+    select_ahead rate settings tables
+    (ahead_of_metrics rate guess gop_start settings.max_key_frame_interval subtype) subtype previous mean_scale
     else (if rate.first then select_first rate settings tables subtype
-    else select_ahead rate settings tables (ahead_of_guess rate (guess rate.reservoir_delay) subtype) subtype previous mean_scale))
+    else
+    select_ahead rate settings tables (ahead_of_guess rate (guess rate.reservoir_delay) subtype) subtype
+    previous mean_scale))
     else select_flat settings tables subtype mean_scale

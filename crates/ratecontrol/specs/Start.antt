@@ -20,7 +20,12 @@ nothing_given = record {
 }
 
 abbrev pub nothing_emitted : Emitted
-nothing_emitted = record { sums = pos 0 ∷ pos 0 ∷ pos 0 ∷ pos 0 ∷ []; tus = pos 0; waiting = None; is_summed_up = false }
+nothing_emitted = record {
+  sums = pos 0 ∷ pos 0 ∷ pos 0 ∷ pos 0 ∷ [];
+  tus = pos 0;
+  waiting = None;
+  is_summed_up = false;
+}
 
 -- one pass, until another is asked for
 abbrev pub rate_from : ℤ → ℤ → ℤ → ℤ → Option ℕ → ℕ → Option ℤ → Rate
@@ -50,5 +55,5 @@ rate_from bitrate npixels bits_per_tu delay greatest least set_delay = record {
 
 unfoldable pub start : ℤ → ℤ → ℤ → ℤ → ℤ → Option ℕ → ℕ → ℤ → Option ℤ → Rate
 start width height framerate_num framerate_den bitrate greatest least max_interval delay =
-    rate_from bitrate (width *ℤ height) (bits_per_tu_of bitrate framerate_num framerate_den) (reservoir_delay_of delay max_interval) greatest least
-    delay
+    rate_from bitrate (width *ℤ height) (bits_per_tu_of bitrate framerate_num framerate_den)
+    (reservoir_delay_of delay max_interval) greatest least delay

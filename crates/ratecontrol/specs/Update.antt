@@ -56,10 +56,13 @@ after e rate = if nat_lt e.subtype 4 then after_frame e rate else after_show e r
 abbrev pub scale_shown : Entry → Rate → ℤ
 scale_shown e rate =
     if nat_lt e.subtype 4 && int_lt (pos 0) e.bits
-    then scale_of rate.log_npixels e.bits (power_log e.log_target (subtype_at rate.subtypes e.subtype).exponent) else negsuc (2 ^ 63 - 1)
+    then
+    scale_of rate.log_npixels e.bits (power_log e.log_target (subtype_at rate.subtypes e.subtype).exponent)
+    else negsuc (2 ^ 63 - 1)
 
 abbrev pub frame_data : Entry → Rate → RCFrameMetrics
-frame_data e rate = record { log_scale_q24 = q57_to_q24 (scale_shown e rate); fti = e.subtype; show_frame = e.shown }
+frame_data e rate =
+    record { log_scale_q24 = q57_to_q24 (scale_shown e rate); fti = e.subtype; show_frame = e.shown }
 
 -- a first pass emits the frame's data, that of a trial too; in a second pass a frame that isn't a trial uses its metrics up
 abbrev pub with_frame_data : RCFrameMetrics → Bool → Rate → Rate

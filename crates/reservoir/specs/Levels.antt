@@ -14,7 +14,8 @@ bits_per_tu_of bitrate framerate_num framerate_den =
 -- over how many temporal units the reservoir is to be evened out
 abbrev pub reservoir_delay_of : Option ℤ → ℤ → ℤ
 reservoir_delay_of (Some delay) max_interval = delay
-reservoir_delay_of None max_interval = int_max (int_min (int_shr (pos 3 *ℤ max_interval) 1) (pos 240)) (pos 12)
+reservoir_delay_of None max_interval =
+    int_max (int_min (int_shr (pos 3 *ℤ max_interval) 1) (pos 240)) (pos 12)
 
 -- the greatest reservoir, and half of it, rounded up
 abbrev pub reservoir_most : ℤ → ℤ → ℤ

@@ -15,4 +15,5 @@ near_previous (Some previous) q = near_base previous q
 
 -- the quantiser whose power with the exponent has this logarithm
 abbrev pub target_of_power : ℤ → ℕ → ℤ
-target_of_power power exponent = saturate_signed w64 (int_div (power +ℤ pos (exponent / 2)) (pos exponent) *ℤ pos 64)
+target_of_power power exponent =
+    saturate_signed w64 (int_div (power +ℤ pos (exponent / 2)) (pos exponent) *ℤ pos 64)
