@@ -71,14 +71,14 @@ module _ (numbers : Numbers) (interval frames later : ℕ) (keys more : List ℕ
   later_next start = start_after interval later (keys ++ more) start
 
   -- a start that is decided stays
-  same-next : (start : ℕ) → next_of start + ahead numbers ≤ frames → later_next start ≡ next_of start
+  pub same-next : (start : ℕ) → next_of start + ahead numbers ≤ frames → later_next start ≡ next_of start
   same-next start decided = elim (first_key keys start) [
     | inl found ↦ omega (arith, found.1.here frames, found.1.further later more)
     | inr none ↦ omega (arith, none.here frames, none.further later more, undecided-key numbers frames later start more on undecided)
   ]
 
   -- and no start comes into what is decided
-  apart-next : (start last : ℕ) → last + ahead numbers < frames → last < next_of start → last < later_next start
+  pub apart-next : (start last : ℕ) → last + ahead numbers < frames → last < next_of start → last < later_next start
   apart-next start last decided below = elim (first_key keys start) [
     | inl found ↦ omega (arith, found.1.here frames, found.1.further later more)
     | inr none ↦ omega (arith, none.here frames, none.further later more, undecided-key numbers frames later start more on undecided)

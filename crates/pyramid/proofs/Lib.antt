@@ -25,6 +25,10 @@ pub mod CodedOnce
 pub mod ShowExisting
 mod WorkedRows
 pub mod KnownUnits
+pub mod PlacedLists
+pub mod PlacedUnits
+pub mod Walks
+pub mod ScheduleSteps
 pub mod NamedSteps
 pub mod NamedRows
 pub mod NamedGroups

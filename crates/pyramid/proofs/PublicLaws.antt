@@ -3,7 +3,7 @@ use Rattle.std.proofs.Common.{ℕ, take}
 use Rattle.std.proofs.lemmas.Option.{slice_get_within, get_or_from_slice_get}
 use Rattle.pyramid.specs.declared.command.Command.TheVariants.{Show}
 use Rattle.pyramid.specs.Display.{empty_slots, shows, showing}
-use Rattle.pyramid.specs.Laws.{GopReplays, PlanIsPlayable, HeldIsCoded, GopIsMoved, PlanIsMoved, SlotsAreOfTheGop, ShowCommandsShowTheirPositions, GopHides, StartsRise, SlotsAfterBoth, AcceptsBoth, ShownByBoth, ShowingBoth, SettingsHaveATable, FirstEmptyIsNamed, FirstRefusedIsFirst, ReferencesNamePositions, SettingsSwitchInOrder, UnitsMakeThePlan, KnownBeginsThePlan, KnownStays, KnownBeginsLaterPlans}
+use Rattle.pyramid.specs.Laws.{GopReplays, PlanIsPlayable, HeldIsCoded, GopIsMoved, PlanIsMoved, SlotsAreOfTheGop, ShowCommandsShowTheirPositions, GopHides, StartsRise, SlotsAfterBoth, AcceptsBoth, ShownByBoth, ShowingBoth, SettingsHaveATable, FirstEmptyIsNamed, FirstRefusedIsFirst, ReferencesNamePositions, SettingsSwitchInOrder, UnitsMakeThePlan, KnownBeginsThePlan, KnownStays, KnownBeginsLaterPlans, PlacesHaveTheCommands, PlacesFollowTheTable}
 use Rattle.pyramid.specs.Plan.{plan}
 use Rattle.pyramid.specs.Playable.{InOrder}
 use Rattle.pyramid.proofs.Below.{plan-below}
@@ -16,6 +16,7 @@ use Rattle.pyramid.proofs.Lists.{count-append}
 use Rattle.pyramid.proofs.Machine.{slots_after-append, accepts-append, shown-append}
 use Rattle.pyramid.proofs.Moved.{gop-moved, plan-moved}
 use Rattle.pyramid.proofs.NamedPlan.{plan-names, settings-switch}
+use Rattle.pyramid.proofs.PlacedUnits.{settled-commands, place-follows}
 use Rattle.pyramid.proofs.PlanLaws.{plan-in_order, plan-accepts, plan-shows, plan-showing, plan-show, plan-code}
 use Rattle.pyramid.proofs.PlanSteps.{start_after-later, start_after-within}
 use Rattle.pyramid.proofs.Refusals.{first-empty, first-refused}
@@ -95,6 +96,12 @@ known_stays = known-stays
 
 pub known_begins_later_plans : KnownBeginsLaterPlans
 known_begins_later_plans = known-begins_later
+
+pub places_have_the_commands : PlacesHaveTheCommands
+places_have_the_commands = settled-commands
+
+pub places_follow_the_table : PlacesFollowTheTable
+places_follow_the_table = place-follows
 
 pub references_name_positions : ReferencesNamePositions
 references_name_positions = plan-names

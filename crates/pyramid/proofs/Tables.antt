@@ -1,6 +1,6 @@
 -- The check of a table: a test that computes on its rows, and the rules that it gives. Another depth is another table
 -- and one more line of `checked`.
-use Rattle.std.proofs.Common.{◌≡◌, ℕ, ◌+◌, ◌-◌, ◌*◌, ◌/◌, ◌^◌, ◌<◌, ◌≤◌, min, Bool, true, false, not, cond, eqb, ltb, leb, ◌&&◌, ◌||◌, ◌⊎◌, List, [], ◌∷◌, length as size, filter, Option, Some, None, refl, sym, ap, ◌∙◌, subst, inl, inr, arith}
+use Rattle.std.proofs.Common.{◌≡◌, ℕ, ◌+◌, ◌-◌, ◌*◌, ◌/◌, ◌^◌, ◌<◌, ◌≤◌, min, Bool, true, false, not, cond, eqb, ltb, leb, ◌&&◌, ◌||◌, ◌⊎◌, List, [], ◌∷◌, length as size, get_or, filter, Option, Some, None, refl, sym, ap, ◌∙◌, subst, inl, inr, arith}
 use Rattle.std.specs.List.{list_all, list_any, count_by, range_with_len}
 use Rattle.std.proofs.lemmas.Bool.{and_parts, cases_lt, cases_eq, or_cases, not-true, cond-true, cond-false, ne_eqb, eqb-true, eq-eqb, ltb-true, leb-true, lt-ltb, le-ltb, false≢true}
 use Rattle.std.proofs.lemmas.List.Sums.{AllPass-from_list_all}
@@ -90,6 +90,10 @@ is_cut inputs rows =
     shows_next [] 1 rows && eqb (count_by (λ r. r.shown) rows) inputs && leb (count_by (λ r. not r.shown) rows) (inputs / 2)
     && same_list (sorted (coded rows)) (range_with_len 1 inputs)
 
+-- each row stands at its index
+abbrev is_indexed : List Row → ℕ → Bool
+is_indexed rows index = eqb (get_or rows index (row 0 0 0 false false)).index index
+
 -- slots 3 + 1 to 3 + depth are among the eight, there are as many rows as places, each row and each cut is right, and
 -- so are the positions that the rows name
 abbrev is_table : ℕ → List Row → Bool
@@ -99,6 +103,7 @@ is_table depth rows =
     && list_all (λ inputs. is_cut inputs (cut inputs rows)) cuts
     && list_all (λ inputs. names_next depth inputs [] (cut inputs rows)) cuts
     && is_end depth (seen_all [] rows)
+    && list_all (is_indexed rows) (range_with_len 0 (2 ^ depth + depth))
 
 one_of : (zeroth second : Bool) → ltb 0 (size (cond zeroth rows_of_depth_zero (cond second rows_of_depth_two []))) ≡ true → (zeroth ≡ true) ⊎ (second ≡ true)
 one_of true second h = inl refl
@@ -181,6 +186,7 @@ pub record Table (depth : ℕ) : Type 0 where
   pub small : depth ≤ 4
   pub size : size (rows depth) ≡ 2 ^ depth + depth
   pub all : list_all (is_row depth) (rows depth) ≡ true
+  pub index : (index : ℕ) → index < 2 ^ depth + depth → (row_at depth index).index ≡ index
   pub cuts : (inputs : ℕ) → inputs ≤ 2 ^ depth → is_cut inputs (cut inputs (rows depth)) ≡ true
   pub names : (inputs : ℕ) → inputs ≤ 2 ^ depth → names_next depth inputs [] (cut inputs (rows depth)) ≡ true
   pub lowest : seen_at 0 (seen_all [] (rows depth)) ≡ Some (2 ^ depth)
@@ -198,7 +204,9 @@ table depth h =
     let level_right : ℕ → Bool = λ level. is_at (seen_at level seen) (2 ^ depth - 2 ^ (depth - level)) in
     let cuts = list_all cut_right (range_with_len 0 count) in
     let names = list_all names_right (range_with_len 0 count) in
-    let five = and_parts (small && as_many && all && cuts && names) (is_end depth seen) (checked depth h) in
+    let indexed = list_all (is_indexed (rows depth)) (range_with_len 0 (2 ^ depth + depth)) in
+    let six = and_parts (small && as_many && all && cuts && names && is_end depth seen) indexed (checked depth h) in
+    let five = and_parts (small && as_many && all && cuts && names) (is_end depth seen) six.0 in
     let four = and_parts (small && as_many && all && cuts) names five.0 in
     let three = and_parts (small && as_many && all) cuts four.0 in
     let two = and_parts (small && as_many) all three.0 in
@@ -208,6 +216,7 @@ table depth h =
       small = leb-true depth 4 one.0;
       size = eqb-true (size (rows depth)) (2 ^ depth + depth) one.1;
       all = two.1;
+      index = λ index below. eqb-true (row_at depth index).index index (at (is_indexed (rows depth)) (2 ^ depth + depth) index six.1 below);
       cuts = λ inputs below. at cut_right count inputs three.1 (omega arith);
       names = λ inputs below. at names_right count inputs four.1 (omega arith);
       lowest = is_at-same (seen_at 0 seen) (2 ^ depth) end.0;

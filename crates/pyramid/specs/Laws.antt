@@ -15,10 +15,11 @@ use Rattle.pyramid.specs.Gop.{gop}
 use Rattle.pyramid.specs.MidGop.{AllHold, before_row}
 use Rattle.pyramid.specs.Moved.{moved, plan_of_moved}
 use Rattle.pyramid.specs.NamedPositions.{last_key, NamesRight, SwitchesInOrder}
-use Rattle.pyramid.specs.Numbers.{Numbers}
+use Rattle.pyramid.specs.Numbers.{Numbers, group_places}
 use Rattle.pyramid.specs.Known.{AreUndecided, units, known}
 use Rattle.pyramid.specs.Levels.{slot_of}
-use Rattle.pyramid.specs.Positions.{position_at}
+use Rattle.pyramid.specs.Positions.{row_position, position_at}
+use Rattle.pyramid.specs.Places.{place_row, row_place, commands_at, settled_places, settled_commands}
 use Rattle.pyramid.specs.Plan.{start_after, plan}
 use Rattle.pyramid.specs.Playable.{InOrder, IsPlayable}
 use Rattle.pyramid.specs.Settings.{numbers_of}
@@ -156,6 +157,28 @@ KnownBeginsLaterPlans = (numbers : Numbers) (interval frames later : ℕ) (keys 
     frames ≤ later →
     AreUndecided numbers frames more →
     Begins (known numbers interval frames keys) (plan numbers interval later (keys ++ more))
+
+-- the commands of the known places are the known commands
+abbrev pub PlacesHaveTheCommands : Type 0
+PlacesHaveTheCommands =
+    (numbers : Numbers) (interval frames : ℕ) (flushed : Bool) (keys : List ℕ) →
+    1 ≤ interval →
+    commands_at (settled_places numbers interval frames flushed keys)
+    ≡ settled_commands numbers interval frames flushed keys
+
+-- the number of a row's place leads back to the row
+abbrev pub PlacesFollowTheTable : Type 0
+PlacesFollowTheTable = (numbers : Numbers) (start length number index : ℕ) →
+    HasTable numbers.depth →
+    index < group_places numbers →
+    let row = row_at numbers.depth index in
+    place_row numbers (row_place numbers start length number row).number
+    ≡ record {
+      position = row_position numbers number row;
+      level = row.level;
+      shown = row.shown;
+      show_existing = row.existing;
+    }
 
 -- the slots after two lists of commands, one behind the other
 abbrev pub SlotsAfterBoth : Type 0

@@ -1,8 +1,9 @@
 -- The words of a plan, in the order in which they are best read: Numbers, Levels, Rows, Positions, RowCommand, Gop, Plan;
--- Known, which Counted counts; Display, Playable and NamedPositions; the laws over both in Laws, with MidGop and Moved.
--- Settings gives the numbers.
+-- Known, which Counted counts; Places, which Building builds for Schedules; Display, Playable and NamedPositions; the laws
+-- over both in Laws, with MidGop and Moved. Settings gives the numbers.
 pub mod AreSlots
 pub mod Begins
+pub mod Building
 pub mod Counted
 pub mod Display
 pub mod Gop
@@ -13,10 +14,12 @@ pub mod MidGop
 pub mod Moved
 pub mod NamedPositions
 pub mod Numbers
+pub mod Places
 pub mod Plan
 pub mod Playable
 pub mod Positions
 pub mod Refs
 pub mod RowCommand
 pub mod Rows
+pub mod Schedules
 pub mod Settings

@@ -1,7 +1,7 @@
 //! What holds of GOPs and plans, each law as the contract of a function that does nothing; `specs/Laws` spells them out.
 //! They hold at every depth that has a place table.
 
-ghost use Rattle.pyramid.specs.Laws.{GopReplays, PlanIsPlayable, HeldIsCoded, GopIsMoved, PlanIsMoved, SlotsAreOfTheGop, ShowCommandsShowTheirPositions, GopHides, SettingsHaveATable, ReferencesNamePositions, SettingsSwitchInOrder, FirstEmptyIsNamed, FirstRefusedIsFirst, UnitsMakeThePlan, KnownBeginsThePlan, KnownStays, KnownBeginsLaterPlans, StartsRise, SlotsAfterBoth, AcceptsBoth, ShownByBoth, ShowingBoth};
+ghost use Rattle.pyramid.specs.Laws.{GopReplays, PlanIsPlayable, HeldIsCoded, GopIsMoved, PlanIsMoved, SlotsAreOfTheGop, ShowCommandsShowTheirPositions, GopHides, SettingsHaveATable, ReferencesNamePositions, SettingsSwitchInOrder, FirstEmptyIsNamed, FirstRefusedIsFirst, UnitsMakeThePlan, KnownBeginsThePlan, KnownStays, KnownBeginsLaterPlans, StartsRise, PlacesHaveTheCommands, PlacesFollowTheTable, SlotsAfterBoth, AcceptsBoth, ShownByBoth, ShowingBoth};
 
 /// Replayed from any eight slots, full or empty, a GOP names no empty slot, and shows its inputs in order, each once.
 pub fn gop_replays()
@@ -77,6 +77,13 @@ pub fn known_begins_the_plan()
 pub fn known_stays()
     ensures known { KnownStays }
     ensures planned { KnownBeginsLaterPlans }
+{}
+
+/// Places are numbered so that a GOP has one for its key and one for each row of its groups: the known ones have the
+/// known commands, and the number of a row's place leads back to the row.
+pub fn places_are_numbered()
+    ensures commands { PlacesHaveTheCommands }
+    ensures table { PlacesFollowTheTable }
 {}
 
 /// Two lists of commands, one behind the other: the slots after both, whether both are accepted, what both show.

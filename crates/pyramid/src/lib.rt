@@ -8,14 +8,21 @@ mod inter_config;
 mod known;
 pub mod laws;
 mod named;
+mod place;
 mod plans;
 mod refs;
 mod row_command;
 mod rows;
+mod schedule;
+#[cfg(test)]
+mod schedule_tests;
+mod spot;
 #[cfg(test)]
 mod tests;
 
 pub use command::Command;
 pub use inter_config::InterConfig;
+pub use place::{Place, PlaceRow};
 pub use plans::plan;
 pub use refs::Refs;
+pub use schedule::Schedule;
