@@ -1,5 +1,5 @@
 -- The calls of both passes.
-use Rattle.std.specs.Prelude.{◌≡◌, ℕ, ◌+◌, ◌-◌, ◌*◌, ◌^◌, not, Bool, true, ◌&&◌, ◌||◌, ◌⊎◌, List, [], ◌∷◌, length, slice_index, Option, Some, None, is_some, IsSome, IsFalse, Result, Ok, Err, ℤ, pos, ◌+ℤ◌, ◌*ℤ◌, ◌≤ℤ◌, int_lt, if◌then◌else◌, unsigned_abs}
+use Rattle.std.specs.Prelude.{◌≡◌, ℕ, ◌+◌, ◌-◌, ◌*◌, ◌^◌, not, Bool, true, ◌&&◌, ◌||◌, ◌⊎◌, List, [], ◌∷◌, length, slice_index, Option, Some, None, is_some, IsSome, IsFalse, IsTrue, Result, Ok, Err, ℤ, pos, ◌+ℤ◌, ◌*ℤ◌, ◌≤ℤ◌, int_lt, if◌then◌else◌, unsigned_abs}
 use Rattle.std.specs.Option.{unwrap_or}
 use Rattle.std.specs.Int.{int_min}
 use Rattle.std.specs.Ordering.{int_eq}
@@ -135,9 +135,14 @@ abbrev pub taken_in : List ℕ → Rate → Answered
 taken_in bytes rate =
     if is_open rate then given_in bytes (in_second rate) else record { rate = rate; answer = Ok 0 }
 
+-- want of memory, which comes only where a pass may begin
+pub record RunsOut (old new : Rate) : Type 0 where
+  pub open_yet : IsTrue (is_open old)
+  pub wants : WantsMemory old new
+
 abbrev pub IsAnswered : Answered → Rate → Rate → Result ℕ PassDataError → Type 0
 IsAnswered a old new result =
-    ((new ≡ a.rate) × (result ≡ a.answer)) ⊎ (WantsMemory old new × (result ≡ Err OutOfMemory))
+    ((new ≡ a.rate) × (result ≡ a.answer)) ⊎ (RunsOut old new × (result ≡ Err OutOfMemory))
 
 -- ---- the first pass
 

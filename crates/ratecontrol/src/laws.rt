@@ -8,7 +8,7 @@ ghost use Rattle.rate_model.specs.Subtype.{subtype_at};
 ghost use Rattle.ratecontrol.specs.Rate.{Rate};
 ghost use Rattle.rate_model.specs.Measure.{Entry, LAST_I32};
 ghost use Rattle.reservoir.specs.Moves.{LAST_COUNT};
-ghost use Rattle.ratecontrol.specs.Passes.{HasCounts, IsReadBack, counts_coded};
+ghost use Rattle.ratecontrol.specs.Passes.{HasCounts, IsReadBack, after_summary, counts_coded};
 ghost use Rattle.ratecontrol.specs.Log.{AllFrames, HasRoom, HasBiasRoom, after_all, bias_after_all, reservoir_after_all, subtype_after_all, coded_after_all, frames_after_all};
 
 use crate::state::RCState;
@@ -17,8 +17,9 @@ use pass_stats::{RCSummary, RateControlError, parse_summary};
 /// Reading a summary that was emitted gives back its temporal units, counts, exponents and sums, where the temporal units
 /// and the counts may be those of a summary.
 pub fn emitted_summary_again(state: &mut RCState) -> Result<RCSummary, RateControlError>
-    ensures { HasCounts state.old.emitted.tus (counts_coded state.old)
+    ensures read { HasCounts state.old.emitted.tus (counts_coded state.old)
         → MatchResult result (IsReadBack state.old) (λ _. ⊥) }
+    ensures state { state.new ≡ after_summary state.old }
 {
     parse_summary(state.emit_summary().as_slice())
 }

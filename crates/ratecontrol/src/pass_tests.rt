@@ -296,7 +296,7 @@ fn damaged_summaries(rt: HostRuntime) -> Result<(), Fail> {
 
 #[test]
 fn no_passes_without_a_bitrate(rt: HostRuntime) -> Result<(), Fail> {
-    let mut state = RCState::new(rt.alloc(), 640, 480, 30, 1, 0, None, 0, 240, None);
+    let mut state = RCState::new(rt.alloc(), 640, 480, 30, 1, 0, None, 0, 240, Some(12));
     assert_eq!(rt; state.twopass_in(None)?, 0);
     assert_eq!(rt; state.twopass_in(Some(&SUMMARY))?, 0);
     assert!(rt; state.ready());

@@ -8,7 +8,7 @@ ghost use Rattle.pass_data.specs.Given.{Given, IsHeader, sent, verdict, with_val
 ghost use Rattle.pass_data.specs.Pieces.{given_bytes, answer};
 ghost use Rattle.pass_data.specs.declared.error.PassDataError.{PassDataError};
 ghost use Rattle.ratecontrol.specs.Rate.{Rate};
-ghost use Rattle.ratecontrol.specs.Passes.{commands as commands_of, is_controlled as is_controlled_of, in_first, room_for as room_for_of, with_buffer, in_second, WantsMemory, frames_needed as frames_needed_of, is_ready as is_ready_of, with_exponent, with_exponents, with_levels as with_levels_of, over_the_file as over_the_file_of, over_the_window as over_the_window_of, set_up as set_up_of, set_up_by, with_given as with_given_of, with_summary, is_open as is_open_of, bytes_wanted as bytes_wanted_of, given_in, asked, taken_in, IsAnswered};
+ghost use Rattle.ratecontrol.specs.Passes.{commands as commands_of, is_controlled as is_controlled_of, in_first, room_for as room_for_of, with_buffer, in_second, RunsOut, WantsMemory, frames_needed as frames_needed_of, is_ready as is_ready_of, with_exponent, with_exponents, with_levels as with_levels_of, over_the_file as over_the_file_of, over_the_window as over_the_window_of, set_up as set_up_of, set_up_by, with_given as with_given_of, with_summary, is_open as is_open_of, bytes_wanted as bytes_wanted_of, given_in, asked, taken_in, IsAnswered};
 
 use crate::state::RCState;
 use coding_base::OutOfMemory;
@@ -277,7 +277,7 @@ impl RCState {
 
     fn ask(&mut self) -> Result<usize, PassDataError>
         ensures asked { IsAnswered (asked self.old) self.old self.new result }
-        ensures memory { result ≡ Err PassDataError.OutOfMemory → WantsMemory self.old self.new }
+        ensures memory { result ≡ Err PassDataError.OutOfMemory → RunsOut self.old self.new }
     {
         if !self.is_open() {
             return Ok(0);
@@ -290,7 +290,7 @@ impl RCState {
 
     fn take_in(&mut self, bytes: &[u8]) -> Result<usize, PassDataError>
         ensures taken { IsAnswered (taken_in bytes.now self.old) self.old self.new result }
-        ensures memory { result ≡ Err PassDataError.OutOfMemory → WantsMemory self.old self.new }
+        ensures memory { result ≡ Err PassDataError.OutOfMemory → RunsOut self.old self.new }
     {
         if !self.is_open() {
             return Ok(0);
@@ -313,7 +313,7 @@ impl RCState {
         ensures answer { MatchOption bytes.entry
             (IsAnswered (asked self.old) self.old self.new result)
             (λ bytes. IsAnswered (taken_in bytes.now self.old) self.old self.new result) }
-        ensures memory { result ≡ Err PassDataError.OutOfMemory → WantsMemory self.old self.new }
+        ensures memory { result ≡ Err PassDataError.OutOfMemory → RunsOut self.old self.new }
     {
         match bytes {
             Some(bytes) => self.take_in(bytes),
