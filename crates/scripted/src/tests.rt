@@ -1,8 +1,9 @@
 use super::*;
 use av1_frame::{ChromaSampling, Frame};
-use av1_settings::{FrameType, SceneDetectionSpeed};
+use av1_settings::{FrameType, SceneDetectionSpeed, T35List};
 use pyramid::{Command, Refs};
 use session_core::{CodeJob, CoderError, Detector, FrameCoder};
+use std::alloc::Global;
 use std::sync::Arc;
 use std::test::Fail;
 
@@ -28,6 +29,7 @@ fn frames_and_shows_have_their_bytes(rt: HostRuntime) -> Result<(), Fail> {
             },
             trial: false,
             picture: picture.clone()?,
+            t35: Arc::new(alloc, T35List::new(alloc))?,
         };
         let coded = coder.code(alloc, &job)?;
         assert_eq!(rt; coded.bytes.len(), count, "{kind}");
@@ -82,7 +84,7 @@ fn scenes_begin_at_the_cuts(rt: HostRuntime) -> Result<(), Fail> {
     Ok(())
 }
 
-fn job(picture: &Arc<Frame<u8>>, frame: u64) -> Result<CodeJob<u8>, Fail> {
+fn job(alloc: Global, picture: &Arc<Frame<u8>>, frame: u64) -> Result<CodeJob<u8>, Fail> {
     Ok(CodeJob {
         command: Command::Code {
             frame,
@@ -93,6 +95,7 @@ fn job(picture: &Arc<Frame<u8>>, frame: u64) -> Result<CodeJob<u8>, Fail> {
         },
         trial: false,
         picture: picture.clone()?,
+        t35: Arc::new(alloc, T35List::new(alloc))?,
     })
 }
 
@@ -104,7 +107,7 @@ fn the_last_count_for_a_frame_is_its_own(rt: HostRuntime) -> Result<(), Fail> {
     let counts = [(0, 3), (1, 4096), (0, 2), (2, 1)];
     let mut coder = ScriptedCoder::with_rules(alloc, &counts, &[])?;
     for (frame, count) in [(0, 2), (1, 4096), (2, 1), (3, 20)] {
-        let coded = coder.code(alloc, &job(&picture, frame)?)?;
+        let coded = coder.code(alloc, &job(alloc, &picture, frame)?)?;
         assert_eq!(rt; coded.bytes.len(), count);
     }
     Ok(())
@@ -116,10 +119,10 @@ fn the_least_fault_comes_first(rt: HostRuntime) -> Result<(), Fail> {
     let frame: Frame<u8> = Frame::new(alloc, 16, 16, ChromaSampling::Cs420)?;
     let picture = Arc::new(alloc, frame)?;
     let mut coder = ScriptedCoder::with_rules(alloc, &[], &[5, 2, 7])?;
-    coder.code(alloc, &job(&picture, 0)?)?;
+    coder.code(alloc, &job(alloc, &picture, 0)?)?;
     coder.show(alloc, 0, 0)?;
     assert_eq!(rt; coder.faults(), 0);
-    let failed = coder.code(alloc, &job(&picture, 1)?);
+    let failed = coder.code(alloc, &job(alloc, &picture, 1)?);
     assert_eq!(rt; failed.err(), Some(CoderError::Failed));
     assert_eq!(rt; coder.faults(), 1);
     let failed = coder.show(alloc, 0, 0);
