@@ -70,7 +70,7 @@ pub record IsAnswered {T O D C A : Type 0} (Gives : Reply T O → Result A Encod
   pub later : IsLater told now
 
 -- a call that failed, and the session with it: its cause is kept. A fault of the coder leaves the moment as it was; where
--- memory ran out the moment may be any on the way to that after the call
+-- memory ran out the moment after is left open
 pub record IsFailed {T O D C A : Type 0} (call : Call T O) (before after : Session T O D C) (told now : Heard T) (result : Result A EncoderStatus) : Type 0 where
   pub fault : SessionFault
   pub fails : Fails before.enc call before.moment told now fault
