@@ -4,7 +4,7 @@ use Rattle.std.specs.Int.{int_shr}
 use Rattle.fixed_log.specs.Logarithm.{blog64}
 use Rattle.quantizers.specs.Tables.{Tables}
 use Rattle.quantizers.specs.Nearest.{nearest}
-use Rattle.quantizers.specs.Subtypes.{modulated}
+use Rattle.rate_model.specs.FrameSubtypes.{modulated}
 use Rattle.quantizers.specs.Parameters.{table_scale}
 use Rattle.quantizers.specs.declared.parameters.LogQuantizer.{LogQuantizer}
 

@@ -2,5 +2,4 @@ pub mod Chroma
 pub mod Flat
 pub mod Nearest
 pub mod Parameters
-pub mod Subtypes
 pub mod Tables

@@ -5,10 +5,10 @@ ghost use Rattle.quantizers.specs.Flat.{log_of_value as log_of, flat_base as fla
 
 use crate::parameters::LogQuantizer;
 use crate::settings::table_scale;
-use crate::subtypes::modulated;
 use crate::tables::QTables;
-use crate::wide::saturated;
 use fixed_log::blog64;
+use fixed_log::wide::saturated;
+use rate_model::modulated;
 
 /// The logarithm of a table value without the table's scale, in Q57.
 #[tactic(auto, using(crate::proofs::Bits::highest_bit_short))]

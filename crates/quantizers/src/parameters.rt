@@ -8,8 +8,8 @@ ghost use Rattle.quantizers.specs.Parameters.{table_scale as table_scale_of, qua
 use crate::chroma::{chroma_planes, luma};
 use crate::settings::{QSettings, table_scale};
 use crate::tables::QTables;
-use crate::wide::saturated;
 use av1_frame::ChromaSampling;
+use fixed_log::wide::saturated;
 use fixed_log::{bexp64, q57};
 
 /// A quantiser of a frame, as logarithms in Q57.

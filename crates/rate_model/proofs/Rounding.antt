@@ -2,7 +2,7 @@
 use Rattle.std.proofs.Common.{◌≡◌, ℕ, refl, ap, sym, ◌∙◌, slice_index, ℤ, pos, ◌+ℤ◌, ◌-ℤ◌, ◌*ℤ◌}
 use Rattle.std.specs.Int.{saturate_signed, w64}
 use Rattle.fixed_log.specs.Exponential.{bexp64}
-use Rattle.quantizers.specs.Subtypes.{offset_of}
+use Rattle.rate_model.specs.FrameSubtypes.{offset_of}
 use Rattle.rate_model.specs.declared.model.RateModel.{RateModel}
 use Rattle.rate_model.specs.Search.{number_at, power_log, rounded_of, bits}
 

@@ -3,7 +3,7 @@ use Rattle.std.specs.Prelude.{◌≡◌, ℕ, zero, suc, ◌+◌, ◌⊎◌, Lis
 use Rattle.std.specs.List.{slice_index_or}
 use Rattle.std.specs.Int.{int_shr, saturate_signed, w64}
 use Rattle.fixed_log.specs.Exponential.{bexp64}
-use Rattle.quantizers.specs.Subtypes.{modulated}
+use Rattle.rate_model.specs.FrameSubtypes.{modulated}
 use Rattle.rate_model.specs.declared.model.RateModel.{RateModel}
 use Rattle.rate_model.specs.declared.search.Search.{Search}
 use Rattle.rate_model.specs.declared.search.Span.{Span}

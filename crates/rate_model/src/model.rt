@@ -2,12 +2,13 @@ ghost use Rattle.std.specs.Prelude.{◌≡◌, ℕ, ◌+◌, ◌*◌, ◌<◌, �
 ghost use Rattle.std.specs.Int.{int_shr, saturate_signed, w64};
 ghost use Rattle.fixed_log.specs.Within.{IsWithin};
 ghost use Rattle.fixed_log.specs.Exponential.{bexp64 as bexp64_of};
-ghost use Rattle.quantizers.specs.Subtypes.{modulated as modulated_of};
+ghost use Rattle.rate_model.specs.FrameSubtypes.{modulated as modulated_of};
 ghost use Rattle.rate_model.specs.Search.{number_at, power_log as power_log_of, frame_bits as frame_bits_of, subtype_bits as subtype_bits_of, bits as bits_of};
 
+use crate::frame_subtypes::modulated;
 use crate::wide::times;
 use fixed_log::bexp64;
-use quantizers::{modulated, saturated};
+use fixed_log::wide::saturated;
 
 /// The bits that frames ahead are expected to take, as a function of the base quantiser.
 #[derive(Clone, Copy, Debug, PartialEq, Eq)]

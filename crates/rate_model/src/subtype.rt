@@ -9,8 +9,8 @@ ghost use Rattle.rate_model.specs.Search.{power_log as power_log_of};
 ghost use Rattle.rate_model.specs.Measure.{entry, scale_of, estimate_of, with_scale, has_delay_to_grow, with_longer_delay, with_grown_delay, following, measured, counted, subtype_after};
 
 use crate::model::power_log;
+use fixed_log::wide::saturated;
 use fixed_log::{IIRBessel2, bexp64, blog64, q24_to_q57, q57, q57_to_q24};
-use quantizers::saturated;
 use std::marker::Model;
 
 /// What is kept of a frame subtype. Contracts see it as a record (`SubtypeRate`).

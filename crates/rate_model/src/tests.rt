@@ -37,3 +37,19 @@ fn frame_without_bits(rt: HostRuntime) {
     assert_eq!(rt; key.estimate(0, power_log(0, 64)), 1);
     assert_eq!(rt; wide::quotient(wide::times(-7, 1), 2), -3);
 }
+
+#[test]
+fn offsets_of_subtypes(rt: HostRuntime) {
+    assert_eq!(rt; (FRAME_NSUBTYPES, FRAME_SUBTYPE_SEF), (4, 4));
+    for (subtype, offset) in [
+        (FRAME_SUBTYPE_I, -56_629_159_325_661_976),
+        (FRAME_SUBTYPE_P, 0),
+        (FRAME_SUBTYPE_B0, 56_629_159_325_661_976),
+        (FRAME_SUBTYPE_B1, 113_258_318_651_323_952),
+    ] {
+        assert!(rt; subtype < 4);
+        assert_eq!(rt; subtype_offset(subtype), offset);
+        assert_eq!(rt; modulated(2047, subtype), offset as i128);
+        assert_eq!(rt; modulated(2048, subtype), offset as i128 + 4096);
+    }
+}

@@ -3,7 +3,7 @@ use Rattle.std.specs.Prelude.{int_div, ℕ, ◌^◌, ◌==◌, nat_lt, Bool, ◌
 use Rattle.std.specs.Int.{int_shr, int_min, int_max, saturate_signed, w64}
 use Rattle.fixed_log.specs.Logarithm.{blog64}
 use Rattle.quantizers.specs.Tables.{Tables}
-use Rattle.quantizers.specs.Subtypes.{modulated}
+use Rattle.rate_model.specs.FrameSubtypes.{modulated}
 use Rattle.quantizers.specs.Flat.{flat}
 use Rattle.quantizers.specs.Parameters.{parameters}
 use Rattle.quantizers.specs.declared.parameters.LogQuantizer.{LogQuantizer}

@@ -21,9 +21,9 @@ mod update;
 
 pub use guess::{Guess, SubtypeGuess};
 pub use pass_data::PassDataError;
-pub use quantizers::{
-    BadTable, FRAME_NSUBTYPES, FRAME_SUBTYPE_B0, FRAME_SUBTYPE_B1, FRAME_SUBTYPE_I,
-    FRAME_SUBTYPE_P, FRAME_SUBTYPE_SEF, LogQuantizer, QSettings, QTables, QuantizerParameters,
+pub use quantizers::{BadTable, LogQuantizer, QSettings, QTables, QuantizerParameters};
+pub use rate_model::{
+    FRAME_NSUBTYPES, FRAME_SUBTYPE_B0, FRAME_SUBTYPE_B1, FRAME_SUBTYPE_I, FRAME_SUBTYPE_P,
+    FRAME_SUBTYPE_SEF, RateModel, Search, search_base_q,
 };
-pub use rate_model::{RateModel, Search, search_base_q};
 pub use state::RCState;

@@ -5,17 +5,16 @@ ghost use Rattle.quantizers.specs.Parameters.{parameters as parameters_of};
 ghost use Rattle.ratecontrol.specs.Select.{at_most as at_most_of, at_least as at_least_of, below_greatest as below_greatest_of, above_least as above_least_of, within_indices as within_indices_of, select_ahead as select_ahead_of, select_flat as select_flat_of, select_first as select_first_of, select};
 ghost use Rattle.std.specs.Int.{saturate_signed, w64};
 ghost use Rattle.fixed_log.specs.Within.{IsWithin};
-ghost use Rattle.quantizers.specs.Subtypes.{modulated as modulated_of};
+ghost use Rattle.rate_model.specs.FrameSubtypes.{modulated as modulated_of};
 ghost use Rattle.ratecontrol.specs.Ahead.{ahead_of_guess as ahead_of_guess_of};
 ghost use Rattle.ratecontrol.specs.SecondPass.{ahead_of_metrics as ahead_of_metrics_of};
 
 use crate::ahead::Ahead;
 use crate::guess::SubtypeGuess;
 use crate::state::RCState;
-use quantizers::{
-    FRAME_SUBTYPE_I, LogQuantizer, QSettings, QTables, QuantizerParameters, flat_quantizer,
-    modulated, saturated,
-};
+use fixed_log::wide::saturated;
+use quantizers::{LogQuantizer, QSettings, QTables, QuantizerParameters, flat_quantizer};
+use rate_model::{FRAME_SUBTYPE_I, modulated};
 use reservoir::powers::near_previous;
 
 fn at_most(q: LogQuantizer, bound: LogQuantizer) -> LogQuantizer

@@ -9,8 +9,8 @@ ghost use Rattle.ratecontrol.specs.Select.{margin as margin_of, overflow as over
 use crate::ahead::Ahead;
 use crate::state::RCState;
 use fixed_log::blog64;
-use quantizers::{modulated, saturated};
-use rate_model::power_log;
+use fixed_log::wide::saturated;
+use rate_model::{modulated, power_log};
 use reservoir::powers::{
     difference, high_half, less, moved, part_of, step_times, sum_of_logs, target_of_power,
 };

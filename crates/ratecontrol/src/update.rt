@@ -13,8 +13,7 @@ ghost use Rattle.ratecontrol.specs.Update.{estimate as estimate_of_entry, charge
 use crate::state::RCState;
 use fixed_log::q57_to_q24;
 use pass_stats::RCFrameMetrics;
-use quantizers::FRAME_NSUBTYPES;
-use rate_model::power_log;
+use rate_model::{FRAME_NSUBTYPES, power_log};
 use reservoir::moves::{next_bias, next_coded, next_count, next_reservoir};
 
 /// The bits that the show of a coded frame is expected to take.

@@ -1,7 +1,7 @@
 ghost use Rattle.std.specs.Prelude.{◌≡◌, ℕ, ◌+◌, ◌<◌, ◌^◌, pos, negsuc, ◌+ℤ◌, ◌*ℤ◌};
 ghost use Rattle.std.specs.Int.{int_shr};
 ghost use Rattle.fixed_log.specs.Within.{IsWithin};
-ghost use Rattle.quantizers.specs.Subtypes.{offset_of, modulated as modulated_of};
+ghost use Rattle.rate_model.specs.FrameSubtypes.{offset_of, modulated as modulated_of};
 
 /// How many frame subtypes have a quantiser.
 pub const FRAME_NSUBTYPES: usize = 4;
