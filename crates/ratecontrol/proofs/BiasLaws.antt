@@ -13,30 +13,42 @@ use Rattle.rate_model.specs.Measure.{Entry}
 use Rattle.reservoir.specs.Moves.{FAR, not_far}
 use Rattle.ratecontrol.specs.Update.{SHOW_BITS, expected, estimate, update, after, after_with_data, after_frame, after_show, with_subtype, charged}
 use Rattle.ratecontrol.specs.Log.{AllFrames, HasBiasRoom, after_all, subtype_after_all, estimate_after_all, bias_changes, bias_after_all}
+use Rattle.ratecontrol.proofs.Exponentials.{exponential_positive}
 use Rattle.ratecontrol.proofs.LogLaws.{settled, updated, subtype_of_own}
 use Rattle.ratecontrol.proofs.ReservoirLaws.{by_trial, not_far_is}
 
-saturated_within : (z : ℤ) → IsWithin (2 ^ 63) (saturate_signed w64 z)
-saturated_within (pos n) = record { low = omega (arith, ints); high = omega (arith, ints) }
-saturated_within (negsuc n) = record { low = omega (arith, ints); high = omega (arith, ints) }
+-- an estimate is a number of bits that fits its type
+record IsEstimate (x : ℤ) : Type 0 where
+  low : pos 0 ≤ℤ x
+  high : x ≤ℤ pos (2 ^ 63)
 
-one_of : (b : Bool) (x y : ℤ) (m : ℕ) → IsWithin m x → IsWithin m y → IsWithin m (cond b x y)
-one_of true x y m p q = p
-one_of false x y m p q = q
+saturated_most : (z : ℤ) → saturate_signed w64 z ≤ℤ pos (2 ^ 63)
+saturated_most (pos n) = omega (arith, ints)
+saturated_most (negsuc n) = omega (arith, ints)
 
-pub exponential_within : (v : ℤ) → IsWithin (2 ^ 63) (bexp64 v)
+lesser : (b : Bool) (x y most : ℤ) → x ≤ℤ most → y ≤ℤ most → cond b x y ≤ℤ most
+lesser true x y most p q = p
+lesser false x y most p q = q
+
+exponential_most : (v : ℤ) → bexp64 v ≤ℤ pos (2 ^ 63)
 unfolding bexp64
-exponential_within (pos v) =
-    one_of (nat_le 63 (v / 2 ^ 57)) (pos (2 ^ 63 - 1)) (saturate_signed w64 (scaled (v / 2 ^ 57) (mantissa (v / 2 ^ 57) (v % 2 ^ 57)))) (2 ^ 63)
-    (record { low = omega (arith, ints); high = omega (arith, ints) }) (saturated_within _)
-exponential_within (negsuc v) = record { low = omega (arith, ints); high = omega (arith, ints) }
+exponential_most (pos v) =
+    lesser (nat_le 63 (v / 2 ^ 57)) (pos (2 ^ 63 - 1)) (saturate_signed w64 (scaled (v / 2 ^ 57) (mantissa (v / 2 ^ 57) (v % 2 ^ 57)))) (pos (2 ^ 63))
+    (omega (arith, ints)) (saturated_most _)
+exponential_most (negsuc v) = omega (arith, ints)
 
-expected_within : (log_npixels : ℤ) (s : SubtypeRate) (e : Entry) → IsWithin (2 ^ 63) (expected log_npixels s e)
-expected_within log_npixels s e = one_of (int_lt (pos 0) e.bits) _ (pos 0) (2 ^ 63) (exponential_within _) (record { low = omega (arith, ints); high = omega (arith, ints) })
+one_of : (b : Bool) (x y : ℤ) → IsEstimate x → IsEstimate y → IsEstimate (cond b x y)
+one_of true x y p q = p
+one_of false x y p q = q
 
-estimate_within : (rate : Rate) (before : List Entry) (e : Entry) → IsWithin (2 ^ 63) (estimate_after_all rate before e)
-estimate_within rate before e =
-    one_of (nat_lt e.subtype 4) _ (pos SHOW_BITS) (2 ^ 63) (expected_within rate.log_npixels (subtype_after_all rate e.subtype before) e)
+is_expected : (log_npixels : ℤ) (s : SubtypeRate) (e : Entry) → IsEstimate (expected log_npixels s e)
+is_expected log_npixels s e =
+    one_of (int_lt (pos 0) e.bits) _ (pos 0) (record { low = exponential_positive _; high = exponential_most _ })
+    (record { low = omega (arith, ints); high = omega (arith, ints) })
+
+is_estimate : (rate : Rate) (before : List Entry) (e : Entry) → IsEstimate (estimate_after_all rate before e)
+is_estimate rate before e =
+    one_of (nat_lt e.subtype 4) _ (pos SHOW_BITS) (is_expected rate.log_npixels (subtype_after_all rate e.subtype before) e)
     (record { low = omega (arith, ints); high = omega (arith, ints) })
 
 -- ---- one frame
@@ -56,7 +68,7 @@ trial_bias e rate trial coded =
     ap (λ b. (cond b (after_frame e rate) (after_show e rate)).bias) coded
     ∙ ap (λ b. (cond b (with_subtype e rate) (charged (estimate rate e) e.bits e.shown (with_subtype e rate))).bias) trial
 
-near : (m n : ℕ) (bias d : ℤ) → IsWithin m bias → IsWithin (2 ^ 64) d → m + 2 ^ 64 * suc n ≤ FAR → IsWithin (m + 2 ^ 64) (bias +ℤ d)
+near : (m n : ℕ) (bias d : ℤ) → IsWithin m bias → IsWithin (2 ^ 63) d → m + 2 ^ 63 * suc n ≤ FAR → IsWithin (m + 2 ^ 63) (bias +ℤ d)
 near m n bias d h k room =
     let a = h.low in
     let b = h.high in
@@ -70,19 +82,19 @@ kept_near m z h room =
     let b = h.high in
     not_far_is z (omega (arith, ints)) (omega (arith, ints))
 
-less_bits : (x bits : ℤ) → IsWithin (2 ^ 63) x → pos 0 ≤ℤ bits → bits ≤ℤ pos (2 ^ 63) → IsWithin (2 ^ 64) (x -ℤ bits)
+less_bits : (x bits : ℤ) → IsEstimate x → pos 0 ≤ℤ bits → bits ≤ℤ pos (2 ^ 63) → IsWithin (2 ^ 63) (x -ℤ bits)
 less_bits x bits h p q =
     let a = h.low in
     let b = h.high in
     record { low = omega (arith, ints); high = omega (arith, ints) }
 
-step_room : (m n : ℕ) → m + 2 ^ 64 * suc n ≤ FAR → (m + 2 ^ 64) + 2 ^ 64 * n ≤ FAR
+step_room : (m n : ℕ) → m + 2 ^ 63 * suc n ≤ FAR → (m + 2 ^ 63) + 2 ^ 63 * n ≤ FAR
 step_room m n h = omega arith
 
-less_room : (m n : ℕ) → m + 2 ^ 64 * suc n ≤ FAR → m + 2 ^ 64 * n ≤ FAR
+less_room : (m n : ℕ) → m + 2 ^ 63 * suc n ≤ FAR → m + 2 ^ 63 * n ≤ FAR
 less_room m n h = omega arith
 
-top_room : (m n : ℕ) → m + 2 ^ 64 * suc n ≤ FAR → m + 2 ^ 64 ≤ FAR
+top_room : (m n : ℕ) → m + 2 ^ 63 * suc n ≤ FAR → m + 2 ^ 63 ≤ FAR
 top_room m n h = omega arith
 
 plus_total : (bias d rest : ℤ) → (bias +ℤ d) +ℤ rest ≡ bias +ℤ (d +ℤ rest)
@@ -125,11 +137,11 @@ same_estimate rate before e on len =
     ap (λ b. cond b (estimate (after_all rate before) e) (pos SHOW_BITS)) show
     ∙ sym (ap (λ b. cond b (expected rate.log_npixels (subtype_after_all rate e.subtype before) e) (pos SHOW_BITS)) show))
 
-one_more : (rate : Rate) (before : List Entry) (e : Entry) → update e (after_all rate before) ≡ after_all rate (before ++ e ∷ [])
+pub one_more : (rate : Rate) (before : List Entry) (e : Entry) → update e (after_all rate before) ≡ after_all rate (before ++ e ∷ [])
 one_more rate before e = sym (fold-append (λ (r : Rate) (x : Entry). update x r) rate before (e ∷ []))
 
 bias_from : (rate : Rate) (before es : List Entry) (m : ℕ) → int_lt (pos 0) rate.bitrate ≡ true → length rate.subtypes ≡ 4 → AllFrames es
-    → IsWithin m (after_all rate before).bias → m + 2 ^ 64 * length es ≤ FAR
+    → IsWithin m (after_all rate before).bias → m + 2 ^ 63 * length es ≤ FAR
     → (after_all (after_all rate before) es).bias ≡ (after_all rate before).bias +ℤ total (bias_changes rate before es)
 bias_from rate before [] m on len all within room = no_change (after_all rate before).bias
 bias_from rate before (e ∷ es) m on len all within room =
@@ -148,13 +160,13 @@ bias_from rate before (e ∷ es) m on len all within room =
     moved ∙ (rest ∙ (ap (λ z. z +ℤ total (bias_changes rate (before ++ e ∷ []) es)) is ∙ sym (ap (λ z. r.bias +ℤ z) dropped))))
     (λ real.
     let d = estimate_after_all rate before e -ℤ e.bits in
-    let small = less_bits (estimate_after_all rate before e) e.bits (estimate_within rate before e) all.0.bits all.0.short in
+    let small = less_bits (estimate_after_all rate before e) e.bits (is_estimate rate before e) all.0.bits all.0.short in
     let within_next = near m (length es) r.bias d within small room in
     let is : (after_all rate (before ++ e ∷ [])).bias ≡ r.bias +ℤ d =
     sym (ap (λ (s : Rate). s.bias) next) ∙ (ap (λ (s : Rate). s.bias) first ∙ (real_bias e r real
     ∙ (ap (λ x. not_far (r.bias +ℤ (x -ℤ e.bits))) (same_estimate rate before e on len)
-    ∙ kept_near (m + 2 ^ 64) (r.bias +ℤ d) within_next (top_room m (length es) room)))) in
-    let rest = bias_from rate (before ++ e ∷ []) es (m + 2 ^ 64) on len all.1 (subst (λ z. IsWithin (m + 2 ^ 64) z) (sym is) within_next) (step_room m (length es) room) in
+    ∙ kept_near (m + 2 ^ 63) (r.bias +ℤ d) within_next (top_room m (length es) room)))) in
+    let rest = bias_from rate (before ++ e ∷ []) es (m + 2 ^ 63) on len all.1 (subst (λ z. IsWithin (m + 2 ^ 63) z) (sym is) within_next) (step_room m (length es) room) in
     let kept : total (bias_changes rate before (e ∷ es)) ≡ d +ℤ total (bias_changes rate (before ++ e ∷ []) es) =
     ap (λ b. total (cond b (bias_changes rate (before ++ e ∷ []) es) (d ∷ bias_changes rate (before ++ e ∷ []) es))) real in
     moved ∙ (rest ∙ (ap (λ z. z +ℤ total (bias_changes rate (before ++ e ∷ []) es)) is

@@ -10,7 +10,7 @@ use Rattle.ratecontrol.specs.Rate.{Rate}
 use Rattle.rate_model.specs.Measure.{Entry, LAST_I32, grown, subtype_after, measured, counted, with_scale, following, has_delay_to_grow, with_grown_delay, with_longer_delay, scale_of}
 use Rattle.reservoir.specs.Moves.{LAST_COUNT}
 use Rattle.ratecontrol.specs.Update.{update, after, after_frame, after_show, with_subtype, charged, estimate}
-use Rattle.ratecontrol.specs.Log.{after_all, is_coded, is_real, is_of, coded_after_all, frames_after_all, subtype_after_all}
+use Rattle.ratecontrol.specs.Log.{after_all, is_coded, is_real, is_of, is_show, coded_after_all, frames_after_all, shown_again_after_all, shows_after_all, subtype_after_all}
 use Rattle.ratecontrol.proofs.LogLaws.{settled, updated}
 
 -- a count that grows by one where the test passes
@@ -59,6 +59,48 @@ coded_counted rate (e ∷ es) on most =
     let next_top : (update e rate).coded ≤ℤ LAST_COUNT = rw is (next_most LAST_COUNT rate.coded (is_coded e) most) in
     coded_counted (update e rate) es (ap (int_lt (pos 0)) s.bitrate ∙ on) next_top
     ∙ (ap (λ n. int_min (n +ℤ pos (length (filter is_coded es))) LAST_COUNT) is ∙ count_next LAST_COUNT rate.coded (is_coded e) (filter is_coded es) e)
+
+-- ---- the shows
+
+again_frame : (e : Entry) (rate : Rate) → ((after_frame e rate).shown_again ≡ rate.shown_again) × ((after_frame e rate).shows ≡ rate.shows)
+unfolding after_frame
+again_frame e rate =
+    elim e.trial as (λ b. let r = cond b (with_subtype e rate) (charged (estimate rate e) e.bits e.shown (with_subtype e rate)) in
+    (r.shown_again ≡ rate.shown_again) × (r.shows ≡ rate.shows)) [
+      | true ↦ (refl, refl)
+      | false ↦ (refl, refl)
+    ]
+
+again_show : (e : Entry) (rate : Rate) → ((after_show e rate).shown_again ≡ grown LAST_COUNT rate.shown_again) × ((after_show e rate).shows ≡ grown LAST_I32 rate.shows)
+unfolding after_show
+again_show e rate = (refl, refl)
+
+again_next : (e : Entry) (rate : Rate)
+    → ((after e rate).shown_again ≡ cond (is_show e) (grown LAST_COUNT rate.shown_again) rate.shown_again) × ((after e rate).shows ≡ cond (is_show e) (grown LAST_I32 rate.shows) rate.shows)
+again_next e rate =
+    elim (nat_lt e.subtype 4) as (λ b. let r = cond b (after_frame e rate) (after_show e rate) in
+    (r.shown_again ≡ cond (not b) (grown LAST_COUNT rate.shown_again) rate.shown_again) × (r.shows ≡ cond (not b) (grown LAST_I32 rate.shows) rate.shows)) [
+      | true ↦ again_frame e rate
+      | false ↦ again_show e rate
+    ]
+
+pub shown_again_counted : (rate : Rate) (es : List Entry) → int_lt (pos 0) rate.bitrate ≡ true → rate.shown_again ≤ℤ LAST_COUNT → (after_all rate es).shown_again ≡ shown_again_after_all rate es
+shown_again_counted rate [] on most = stays LAST_COUNT rate.shown_again most
+shown_again_counted rate (e ∷ es) on most =
+    let s = settled e rate in
+    let is : (update e rate).shown_again ≡ cond (is_show e) (grown LAST_COUNT rate.shown_again) rate.shown_again = ap (λ (r : Rate). r.shown_again) (updated e rate on) ∙ (again_next e rate).0 in
+    let next_top : (update e rate).shown_again ≤ℤ LAST_COUNT = rw is (next_most LAST_COUNT rate.shown_again (is_show e) most) in
+    shown_again_counted (update e rate) es (ap (int_lt (pos 0)) s.bitrate ∙ on) next_top
+    ∙ (ap (λ n. int_min (n +ℤ pos (length (filter is_show es))) LAST_COUNT) is ∙ count_next LAST_COUNT rate.shown_again (is_show e) (filter is_show es) e)
+
+pub shows_counted : (rate : Rate) (es : List Entry) → int_lt (pos 0) rate.bitrate ≡ true → rate.shows ≤ℤ LAST_I32 → (after_all rate es).shows ≡ shows_after_all rate es
+shows_counted rate [] on most = stays LAST_I32 rate.shows most
+shows_counted rate (e ∷ es) on most =
+    let s = settled e rate in
+    let is : (update e rate).shows ≡ cond (is_show e) (grown LAST_I32 rate.shows) rate.shows = ap (λ (r : Rate). r.shows) (updated e rate on) ∙ (again_next e rate).1 in
+    let next_top : (update e rate).shows ≤ℤ LAST_I32 = rw is (next_most LAST_I32 rate.shows (is_show e) most) in
+    shows_counted (update e rate) es (ap (int_lt (pos 0)) s.bitrate ∙ on) next_top
+    ∙ (ap (λ n. int_min (n +ℤ pos (length (filter is_show es))) LAST_I32) is ∙ count_next LAST_I32 rate.shows (is_show e) (filter is_show es) e)
 
 -- ---- the frames of a subtype
 

@@ -1,7 +1,9 @@
 pub mod BiasLaws
 pub mod CountLaws
+pub mod Exponentials
 pub mod Four
 pub mod HeaderLaws
+pub mod KeptLaws
 pub mod LedgerLaws
 pub mod LogLaws
 pub mod PassLaws

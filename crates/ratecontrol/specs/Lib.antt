@@ -1,4 +1,5 @@
 pub mod Ahead
+pub mod Kept
 pub mod Ledger
 pub mod Log
 pub mod Passes

@@ -71,6 +71,16 @@ abbrev pub frames_after_all : Rate → ℕ → List Entry → ℤ
 frames_after_all rate subtype entries =
     int_min ((subtype_at rate.subtypes subtype).frames +ℤ pos (length (filter is_real (filter (is_of subtype) entries)))) LAST_I32
 
+-- the shows of coded frames
+abbrev pub is_show : Entry → Bool
+is_show e = not (nat_lt e.subtype 4)
+
+abbrev pub shown_again_after_all : Rate → List Entry → ℤ
+shown_again_after_all rate entries = int_min (rate.shown_again +ℤ pos (length (filter is_show entries))) LAST_COUNT
+
+abbrev pub shows_after_all : Rate → List Entry → ℤ
+shows_after_all rate entries = int_min (rate.shows +ℤ pos (length (filter is_show entries))) LAST_I32
+
 -- what was to be expected of a frame, from the frames of its own subtype before it
 abbrev pub estimate_after_all : Rate → List Entry → Entry → ℤ
 estimate_after_all rate before e =
@@ -90,4 +100,4 @@ bias_after_all rate entries = rate.bias +ℤ total (bias_changes rate [] entries
 pub record HasBiasRoom (rate : Rate) (entries : List Entry) : Type 0 where
   pub span : ℕ
   pub within : IsWithin span rate.bias
-  pub room : span + 2 ^ 64 * length entries ≤ FAR
+  pub room : span + 2 ^ 63 * length entries ≤ FAR

@@ -3,12 +3,16 @@
 //! `update` is the definition that the contract of [`RCState::update_state`](crate::RCState::update_state) cites, and
 //! `after_all` folds it over the list.
 
-ghost use Rattle.std.specs.Prelude.{◌≡◌, ℕ, ◌<◌, List, length, int_lt, true, pos, ◌≤ℤ◌, MatchResult};
+ghost use Rattle.std.specs.Prelude.{◌≡◌, ℕ, ◌*◌, ◌<◌, ◌^◌, ◌&&◌, Bool, List, [], ◌∷◌, ◌++◌, length, Option, IfSome, int_lt, true, false, ℤ, pos, ◌≤ℤ◌, MatchResult};
+ghost use Rattle.std.specs.Ordering.{int_eq};
 ghost use Rattle.rate_model.specs.Subtype.{subtype_at};
 ghost use Rattle.ratecontrol.specs.Rate.{Rate};
-ghost use Rattle.rate_model.specs.Measure.{Entry, LAST_I32};
+ghost use Rattle.rate_model.specs.Measure.{Entry, entry, LAST_I32};
 ghost use Rattle.reservoir.specs.Moves.{LAST_COUNT};
 ghost use Rattle.ratecontrol.specs.Passes.{HasCounts, IsReadBack, after_summary, counts_coded};
+ghost use Rattle.ratecontrol.specs.Start.{start};
+ghost use Rattle.ratecontrol.specs.Update.{update};
+ghost use Rattle.ratecontrol.specs.Kept.{kept, is_trial_due, IsSessionStart, IsSessionEntry, IsSessionLog};
 ghost use Rattle.ratecontrol.specs.Log.{AllFrames, HasRoom, HasBiasRoom, after_all, bias_after_all, reservoir_after_all, subtype_after_all, coded_after_all, frames_after_all};
 
 use crate::state::RCState;
@@ -59,4 +63,57 @@ pub fn bias_is_a_sum()
     ensures { (rate : Rate) (entries : List Entry) → int_lt (pos 0) rate.bitrate ≡ true
         → length rate.subtypes ≡ 4 → AllFrames entries → HasBiasRoom rate entries
         → (after_all rate entries).bias ≡ bias_after_all rate entries }
+{}
+
+/// What a session keeps after the entries of its log is one record: the start, but for counts, sums, each subtype after its
+/// own frames, and the reservoir's ledger. Without a bitrate it is the start itself, whatever the entries are.
+///
+/// So [`RCState::update_state`](crate::RCState::update_state) leads from what is kept of a log to what is kept of the longer one.
+#[tactic(auto, using(crate::proofs::KeptLaws::after_all_is_kept, crate::proofs::KeptLaws::uncontrolled, crate::proofs::KeptLaws::kept_next, crate::proofs::KeptLaws::kept_of_none, crate::proofs::KeptLaws::kept_bitrate, crate::proofs::KeptLaws::kept_reservoir))]
+pub fn a_session_keeps_its_log()
+    ensures kept { (rate : Rate) (entries : List Entry)
+        → IsSessionStart rate → IsSessionLog entries → after_all rate entries ≡ kept rate entries }
+    ensures uncontrolled { (rate : Rate) (entries : List Entry)
+        → int_lt (pos 0) rate.bitrate ≡ false → after_all rate entries ≡ rate }
+    ensures start { (rate : Rate) → IsSessionStart rate → kept rate [] ≡ rate }
+    ensures next { (rate : Rate) (entries : List Entry) (e : Entry)
+        → IsSessionStart rate → IsSessionLog (entries ++ e ∷ [])
+        → update e (kept rate entries) ≡ kept rate (entries ++ e ∷ []) }
+    ensures bitrate { (rate : Rate) (entries : List Entry)
+        → (kept rate entries).bitrate ≡ rate.bitrate }
+    ensures reservoir { (rate : Rate) (entries : List Entry)
+        → int_lt (pos 0) rate.bitrate ≡ true
+        → (kept rate entries).reservoir ≡ reservoir_after_all rate entries }
+{}
+
+/// What a session's log grows by: coded frames with bits, and shows of coded frames.
+#[tactic(auto, using(crate::proofs::KeptLaws::frame_entry, crate::proofs::KeptLaws::show_entry, crate::proofs::KeptLaws::log_next, crate::proofs::KeptLaws::log_before))]
+pub fn a_log_grows_by_frames_and_shows()
+    ensures frame { (bits : ℤ) (subtype : ℕ) (shown : Bool) (log_target : ℤ) (trial : Bool)
+        → subtype < 4 → pos 1 ≤ℤ bits → bits ≤ℤ pos (8 * 2 ^ 48)
+        → IsSessionEntry (entry bits subtype shown log_target trial) }
+    ensures show { (log_target : ℤ) → IsSessionEntry (entry (pos 24) 4 true log_target false) }
+    ensures next { (entries : List Entry) (e : Entry) → IsSessionLog entries
+        → length entries < 2 ^ 33 → IsSessionEntry e → IsSessionLog (entries ++ e ∷ []) }
+    ensures before { (entries : List Entry) (e : Entry)
+        → IsSessionLog (entries ++ e ∷ []) → IsSessionLog entries }
+{}
+
+/// The state that [`RCState::new`](crate::RCState::new) gives is the start of a session.
+#[tactic(auto, using(crate::proofs::KeptLaws::session_starts))]
+pub fn a_session_starts_with_a_new_state()
+    ensures { (width height num den bitrate : ℤ) (greatest : Option ℕ) (least : ℕ) (interval : ℤ)
+        (delay : Option ℤ)
+        → IfSome delay (λ d. (pos 12 ≤ℤ d) × (d ≤ℤ pos (2 ^ 17)))
+        → IsSessionStart (start width height num den bitrate greatest least interval delay) }
+{}
+
+/// A trial is due, as [`RCState::needs_trial_encode`](crate::RCState::needs_trial_encode) tells it, exactly where there is a
+/// bitrate and no frame of the subtype was coded for good.
+#[tactic(auto, using(crate::proofs::KeptLaws::trial_is_due))]
+pub fn a_trial_is_due_before_the_first_frame()
+    ensures { (rate : Rate) (subtype : ℕ) (entries : List Entry) → subtype < 4 → IsSessionStart rate
+        → (int_lt (pos 0) (kept rate entries).bitrate
+        && int_eq (subtype_at (kept rate entries).subtypes subtype).frames (pos 0))
+        ≡ is_trial_due rate subtype entries }
 {}
