@@ -1,3 +1,4 @@
+pub mod Bounds
 pub mod Chroma
 pub mod Flat
 pub mod Nearest

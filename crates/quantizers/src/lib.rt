@@ -5,6 +5,7 @@
 //! depth. No call takes memory.
 #![tactic(auto)]
 
+mod bounds;
 mod chroma;
 mod flat;
 mod nearest;
@@ -14,6 +15,7 @@ mod tables;
 #[cfg(test)]
 mod tests;
 
+pub use bounds::{above_least, below_greatest};
 pub use flat::{flat_quantizer, log_of_value};
 pub use parameters::{LogQuantizer, QuantizerParameters};
 pub use settings::{QSettings, table_scale};

@@ -2,7 +2,7 @@ ghost use Rattle.std.specs.Prelude.{◌≡◌, ℕ, ◌+◌, ◌*◌, ◌^◌, �
 ghost use Rattle.quantizers.specs.Tables.{Tables};
 ghost use Rattle.quantizers.specs.Flat.{flat};
 ghost use Rattle.quantizers.specs.Parameters.{parameters as parameters_of};
-ghost use Rattle.ratecontrol.specs.Select.{at_most as at_most_of, at_least as at_least_of, below_greatest as below_greatest_of, above_least as above_least_of, within_indices as within_indices_of, select_ahead as select_ahead_of, select_flat as select_flat_of, select_first as select_first_of, select};
+ghost use Rattle.ratecontrol.specs.Select.{within_indices as within_indices_of, select_ahead as select_ahead_of, select_flat as select_flat_of, select_first as select_first_of, select};
 ghost use Rattle.std.specs.Int.{saturate_signed, w64};
 ghost use Rattle.fixed_log.specs.Within.{IsWithin};
 ghost use Rattle.rate_model.specs.FrameSubtypes.{modulated as modulated_of};
@@ -13,64 +13,12 @@ use crate::ahead::Ahead;
 use crate::guess::SubtypeGuess;
 use crate::state::RCState;
 use fixed_log::wide::saturated;
-use quantizers::{LogQuantizer, QSettings, QTables, QuantizerParameters, flat_quantizer};
+use quantizers::{
+    LogQuantizer, QSettings, QTables, QuantizerParameters, above_least, below_greatest,
+    flat_quantizer,
+};
 use rate_model::{FRAME_SUBTYPE_I, modulated};
 use reservoir::powers::near_previous;
-
-fn at_most(q: LogQuantizer, bound: LogQuantizer) -> LogQuantizer
-    ensures { result ≡ at_most_of q bound }
-{
-    LogQuantizer {
-        base: q.base.min(bound.base),
-        target: q.target.min(bound.target),
-    }
-}
-
-fn at_least(q: LogQuantizer, bound: LogQuantizer) -> LogQuantizer
-    ensures { result ≡ at_least_of q bound }
-{
-    LogQuantizer {
-        base: q.base.max(bound.base),
-        target: q.target.max(bound.target),
-    }
-}
-
-fn below_greatest(
-    greatest: Option<u8>,
-    tables: &QTables,
-    bit_depth: u8,
-    fti: usize,
-    q: LogQuantizer,
-) -> LogQuantizer
-    requires depth_least { 8 ≤ bit_depth }
-    requires depth_most { bit_depth ≤ 12 }
-    requires fti { fti < 4 }
-    ensures { result ≡ below_greatest_of greatest tables.now bit_depth fti q }
-{
-    match greatest {
-        Some(i) => at_most(q, flat_quantizer(tables, bit_depth, i, fti)),
-        None => q,
-    }
-}
-
-fn above_least(
-    least: u8,
-    tables: &QTables,
-    bit_depth: u8,
-    fti: usize,
-    q: LogQuantizer,
-) -> LogQuantizer
-    requires depth_least { 8 ≤ bit_depth }
-    requires depth_most { bit_depth ≤ 12 }
-    requires fti { fti < 4 }
-    ensures { result ≡ above_least_of least tables.now bit_depth fti q }
-{
-    if least > 0 {
-        at_least(q, flat_quantizer(tables, bit_depth, least, fti))
-    } else {
-        q
-    }
-}
 
 /// The parameters where there is no bitrate: those of the index that is set.
 #[tactic(auto, unfolding(crate::specs::Select::select_flat))]

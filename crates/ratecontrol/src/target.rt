@@ -1,153 +1,20 @@
-ghost use Rattle.std.specs.Prelude.{◌≡◌, ℕ, ◌+◌, ◌-◌, ◌*◌, ◌/◌, ◌^◌, ◌<◌, ◌≤◌, IsTrue, ◌&&◌, Option, int_div, int_lt, is_none, pos, ◌+ℤ◌, ◌-ℤ◌, ◌*ℤ◌, ◌≤ℤ◌, ◌<ℤ◌};
-ghost use Rattle.std.specs.Int.{int_shr, int_min, int_max, saturate_signed, w64};
+ghost use Rattle.std.specs.Prelude.{◌≡◌, ℕ, ◌^◌, ◌<◌, ◌≤◌, pos, ◌+ℤ◌, ◌≤ℤ◌};
 ghost use Rattle.fixed_log.specs.Within.{IsWithin};
-ghost use Rattle.fixed_log.specs.Logarithm.{blog64 as blog64_of};
 ghost use Rattle.rate_model.specs.Subtype.{subtype_at};
-ghost use Rattle.rate_model.specs.Search.{power_log as power_log_of};
-ghost use Rattle.ratecontrol.specs.Select.{margin as margin_of, overflow as overflow_of, overflow_part as overflow_part_of, overflow_log as overflow_log_of, runs_over as runs_over_of, power_against_overflow as power_against_overflow_of, target_against_overflow as target_against_overflow_of, held as held_of, held_log as held_log_of, runs_dry as runs_dry_of, target_against_underflow as target_against_underflow_of, log_bits_of, target_of};
+ghost use Rattle.ratecontrol.specs.Select.{fill_of, log_bits_of, target_of};
 
 use crate::ahead::Ahead;
 use crate::state::RCState;
-use fixed_log::blog64;
-use fixed_log::wide::saturated;
-use rate_model::{modulated, power_log};
-use reservoir::powers::{
-    difference, high_half, less, moved, part_of, step_times, sum_of_logs, target_of_power,
-};
+use rate_model::modulated;
+use reservoir::fill::Reservoir;
+use reservoir::powers::sum_of_logs;
 
 impl RCState {
-    /// The last 32nd of the reservoir.
-    fn margin(&self) -> i128
-        ensures value { result ≡ margin_of self.now }
-        ensures low { pos 1 ≤ℤ result }
-        ensures high { result ≤ℤ pos (2 ^ 78) }
+    /// What the reservoir holds, and can hold.
+    fn fill(&self) -> Reservoir
+        ensures { result ≡ fill_of self.now }
     {
-        (self.most + 31) >> 5
-    }
-
-    /// The reservoir after a frame that is shown and takes no bits, without its limit.
-    fn refilled(&self) -> i128
-        ensures value { result ≡ self.now.reservoir +ℤ self.now.bits_per_tu }
-        ensures within { IsWithin (2 ^ 97) result }
-    {
-        self.reservoir + self.bits_per_tu as i128
-    }
-
-    /// The reservoir without its margin.
-    fn below_margin(&self) -> i128
-        ensures value { result ≡ self.now.most -ℤ margin_of self.now }
-        ensures within { IsWithin (2 ^ 79) result }
-    {
-        self.most - self.margin()
-    }
-
-    /// How far the reservoir would reach into its margin if the frame took no bits.
-    fn overflow(&self) -> i128
-        ensures value { result ≡ overflow_of self.now }
-        ensures within { IsWithin (2 ^ 98) result }
-    {
-        self.refilled() - self.below_margin()
-    }
-
-    /// The part of the margin that is reached, of scale 2^32.
-    fn overflow_part(&self) -> i64
-        requires { pos 0 <ℤ overflow_of self.now }
-        ensures value { result ≡ overflow_part_of self.now }
-        ensures within { IsWithin (2 ^ 32) result }
-    {
-        part_of(self.overflow(), self.margin())
-    }
-
-    /// The bits that a frame may take.
-    fn held(&self) -> i128
-        ensures value { result ≡ held_of self.now }
-    {
-        self.reservoir + (self.bits_per_tu >> 1) as i128
-    }
-}
-
-impl RCState {
-    fn overflow_log(&self) -> i64
-        ensures { result ≡ overflow_log_of self.now }
-    {
-        blog64(saturated(self.overflow()))
-    }
-
-    /// Whether the reservoir would run over, and the frame takes fewer bits than that.
-    fn runs_over(&self, log_bits: i128, power: i128) -> bool
-        requires log_bits { IsWithin (2 ^ 64) log_bits }
-        requires power { IsWithin (2 ^ 67) power }
-        ensures value { result ≡ runs_over_of self.now log_bits power }
-        ensures positive { IsTrue result → pos 0 <ℤ overflow_of self.now }
-    {
-        self.overflow() > 0 && less(log_bits, power) < self.overflow_log() as i128
-    }
-
-    /// The power, moved towards the one that fills the margin, by the part of the margin that is reached.
-    fn power_against_overflow(&self, log_bits: i128, power: i128) -> i128
-        requires overflow { pos 0 <ℤ overflow_of self.now }
-        requires log_bits { IsWithin (2 ^ 64) log_bits }
-        requires power { IsWithin (2 ^ 67) power }
-        ensures value { result ≡ power_against_overflow_of self.now log_bits power }
-        ensures within { IsWithin (2 ^ 72) result }
-    {
-        let step = high_half(difference(log_bits, self.overflow_log(), power));
-        moved(power, step_times(step, self.overflow_part()))
-    }
-
-    /// The target, raised where the reservoir would run over.
-    #[tactic(auto, unfolding(crate::specs::Select::target_against_overflow))]
-    fn target_against_overflow(&self, log_bits: i128, exponent: u8, target: i128) -> i64
-        requires exponent { 1 ≤ exponent }
-        requires log_bits { IsWithin (2 ^ 64) log_bits }
-        requires target { IsWithin (2 ^ 64) target }
-        ensures { result ≡ target_against_overflow_of self.now log_bits exponent target }
-    {
-        let power = power_log(target, exponent);
-        if self.runs_over(log_bits, power) {
-            target_of_power(self.power_against_overflow(log_bits, power), exponent)
-        } else {
-            saturated(target)
-        }
-    }
-
-    fn held_log(&self) -> i64
-        ensures { result ≡ held_log_of self.now }
-    {
-        blog64(saturated(self.held()))
-    }
-
-    /// Whether the frame would take more bits than there are, and no greatest index forbids a higher quantiser.
-    fn runs_dry(&self, log_bits: i128, power: i128) -> bool
-        requires log_bits { IsWithin (2 ^ 64) log_bits }
-        requires power { IsWithin (2 ^ 67) power }
-        ensures { result ≡ runs_dry_of self.now log_bits power }
-    {
-        self.greatest.is_none() && less(log_bits, power) > self.held_log() as i128
-    }
-
-    /// The power with which the frame takes the bits that there are.
-    fn power_against_underflow(&self, log_bits: i128) -> i128
-        requires log_bits { IsWithin (2 ^ 64) log_bits }
-        ensures value { result ≡ log_bits -ℤ held_log_of self.now }
-        ensures within { IsWithin (2 ^ 65) result }
-    {
-        log_bits - self.held_log() as i128
-    }
-
-    /// The target, raised where the frame would take more bits than there are.
-    #[tactic(auto, unfolding(crate::specs::Select::target_against_underflow))]
-    fn target_against_underflow(&self, log_bits: i128, exponent: u8, target: i64) -> i64
-        requires exponent { 1 ≤ exponent }
-        requires log_bits { IsWithin (2 ^ 64) log_bits }
-        ensures { result ≡ target_against_underflow_of self.now log_bits exponent target }
-    {
-        let power = power_log(target as i128, exponent);
-        if self.runs_dry(log_bits, power) {
-            target_of_power(self.power_against_underflow(log_bits), exponent)
-        } else {
-            target
-        }
+        Reservoir::new(self.reservoir, self.most, self.bits_per_tu)
     }
 
     /// The logarithm of the frame's bits at quantiser 1.
@@ -166,7 +33,8 @@ impl RCState {
     {
         let exponent = self.subtypes[fti].exponent();
         let log_bits = self.log_bits(ahead);
-        let target = self.target_against_overflow(log_bits, exponent, modulated(base, fti));
-        self.target_against_underflow(log_bits, exponent, target)
+        let fill = self.fill();
+        let target = fill.target_against_overflow(log_bits, exponent, modulated(base, fti));
+        fill.target_against_underflow(self.greatest, log_bits, exponent, target)
     }
 }

@@ -1,3 +1,4 @@
+pub mod Fills
 pub mod Levels
 pub mod Moves
 pub mod Powers
