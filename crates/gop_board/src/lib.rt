@@ -1,10 +1,23 @@
-//! The jobs of an encode whose GOPs are coded side by side. So far its core: the order of things over every interleaving
-//! of submitting, taking, depositing and collecting, without threads.
+//! The jobs of an encode whose GOPs are coded side by side: how frames are split into them, the numbers that a queue hands out
+//! to workers, the board on which their results are put together in order, and, without threads, the order of things over every
+//! interleaving of submitting, taking, depositing and collecting.
 #![tactic(auto)]
 
+mod board;
 mod core_state;
+mod gate;
+mod job;
+mod job_queue;
+mod job_result;
 pub mod laws;
+mod split;
 #[cfg(test)]
 mod tests;
 
+pub use board::{Board, Deposits, Run};
 pub use core_state::{CoreState, CoreStep, core_run, core_step};
+pub use gate::{Gate, OpenGate};
+pub use job::{FrameList, Job};
+pub use job_queue::{JobPass, JobQueue};
+pub use job_result::{JobResult, PacketList};
+pub use split::split_gops;
