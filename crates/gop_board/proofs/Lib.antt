@@ -1,3 +1,6 @@
 mod Counts
+mod Handed
 mod Moves
+mod NewRows
 mod Runs
+mod Splitting
