@@ -220,7 +220,7 @@ pushes n seat v x live may is more items parts room h at =
       refl,
     )
 
-pub pops : (seat : ℕ) (v : Part) → v.live ≡ true → Pops InOrder seat v (λ x w. (w ≡ popped_one v x) × IsGiven v x)
+pub pops : (seat : ℕ) (v : Part) → v.live ≡ true → Pops InOrder seat v (λ x w. (w ≡ popped_one v x) × IsGiven v.jobs v x)
 pops seat v live x items parts h at =
     let w : Part = popped_one v x in
     let mine = h.each seat v at live in
@@ -419,7 +419,7 @@ merges seat v other u live lives items parts h at two at' =
 pub few : (seat : ℕ) (v : Part) → v.live ≡ true → v.pushes ≡ true → Learns InOrder seat v (λ items. length items ≤ v.pushed)
 few seat v live may items parts h at = let count = (h.each seat v at live).all may in omega arith
 
-pub held : (seat : ℕ) (v : Part) → v.live ≡ true → Learns InOrder seat v (IsHeld v)
+pub held : (seat : ℕ) (v : Part) → v.live ≡ true → Learns InOrder seat v (IsHeld v.jobs v)
 held seat v live items parts h at =
     let mine = h.each seat v at live in
     record {
@@ -432,15 +432,7 @@ held seat v live items parts h at =
     }
 
 -- no number was given twice
-pub held-once : (part : Part) (items : List ℕ) → IsHeld part items → (number : ℕ) → times number (given part) ≤ 1
-held-once part items h number =
+pub held-once : (jobs : ℕ) (part : Part) (items : List ℕ) → IsHeld jobs part items → (number : ℕ) → times number (given part) ≤ 1
+held-once jobs part items h number =
     let all : times number (h.out ++ items) ≡ times number (range_with_len 0 (length h.out + length items)) = ap (times number) h.order in
     omega (arith, h.once number, times-append number h.out items, all, times-few number 0 (length h.out + length items))
-
--- the first pass alone took all that it put, where the queue holds nothing
-pub took-all : (part : Part) → IsHeld part [] → IsAlone part → length part.popped ≡ part.pushed
-took-all part h alone =
-    let same = ap (λ (l : List ℕ). length l) (h.took alone) in
-    let all = h.all alone.pushes in
-    let none : length {A = ℕ} [] ≡ 0 = refl in
-    omega arith

@@ -2,5 +2,6 @@ mod Counts
 mod Handed
 mod Moves
 mod NewRows
+mod PacketOrder
 mod Runs
 mod Splitting

@@ -67,10 +67,10 @@ pub record IsAlone (part : Part) : Type 0 where
   pub pushes : part.pushes ≡ true
   pub whole : part.was_split ≡ false
 
--- what is known of a number that a pop of this pass gives: it is that of a job, and greater than those that it gave before;
--- where the pass makes the pushes it was pushed, and the first pass alone is given 0, 1, ..
-pub record IsGiven (part : Part) (number : ℕ) : Type 0 where
-  pub below : number < part.jobs
+-- what is known of a number that a pop of this pass gives, from a queue for so many jobs: it is that of a job, and greater than
+-- those that it gave before; where the pass makes the pushes it was pushed, and the first pass alone is given 0, 1, ..
+pub record IsGiven (jobs : ℕ) (part : Part) (number : ℕ) : Type 0 where
+  pub below : number < jobs
   pub rises : All (λ earlier. earlier < number) part.popped
   pub put : part.pushes ≡ true → number < part.pushed
   pub next : IsAlone part → number ≡ length part.popped
@@ -100,14 +100,14 @@ pub record InOrder (items : List ℕ) (parts : List Part) : Type 0 where
 -- ---- what a pass learns of what its queue holds at one moment
 
 -- what came out before is what makes 0, 1, .. with it; all that the pass gave is among that; the first pass alone took it all
-pub record IsHeld (part : Part) (items : List ℕ) : Type 0 where
+pub record IsHeld (jobs : ℕ) (part : Part) (items : List ℕ) : Type 0 where
   pub out : List ℕ
   pub order : out ++ items ≡ range_with_len 0 (length out + length items)
-  pub within : length out + length items ≤ part.jobs
+  pub within : length out + length items ≤ jobs
   pub once : (number : ℕ) → times number (given part) ≤ times number out
   pub all : part.pushes ≡ true → part.pushed ≡ length out + length items
   pub took : IsAlone part → part.popped ≡ out
 
 -- at one moment the queue held nothing
-abbrev pub WasEmpty : Part → Type 0
-WasEmpty part = IsHeld part []
+abbrev pub WasEmpty : ℕ → Part → Type 0
+WasEmpty jobs part = IsHeld jobs part []

@@ -107,13 +107,13 @@ impl Outcome<u64, Part> for Takes {
     ghost use Rattle.std.specs.Prelude.{◌≡◌};
     ghost use Rattle.gop_board.specs.Handing.{IsGiven, popped_one};
 
-    ghost then = { λ part number after. (after ≡ popped_one part number) × IsGiven part number };
+    ghost then = { λ part number after. (after ≡ popped_one part number) × IsGiven part.jobs part number };
 }
 
 impl Lesson<u64, Part> for Takes {
     ghost use Rattle.gop_board.specs.Handing.{IsHeld};
 
-    ghost fact = { IsHeld };
+    ghost fact = { λ part items. IsHeld part.jobs part items };
 }
 
 /// A queue of job numbers that threads share. Contracts see which queue it is, and the number of jobs that it was made for.
@@ -198,8 +198,8 @@ impl JobQueue {
     pub fn pop<R: Wait>(&self, rt: &R, pass: &mut JobPass) -> Option<u64>
         requires { pass.old.queue ≡ self.now }
         ensures pass { pass.new ≡ after_pop pass.old result }
-        ensures given { IfSome result (IsGiven pass.old.part) }
-        ensures none { IfNone result (WasEmpty pass.old.part) }
+        ensures given { IfSome result (IsGiven self.now.jobs pass.old.part) }
+        ensures none { IfNone result (WasEmpty self.now.jobs pass.old.part) }
         ensures all { IfNone result
             (IsAlone pass.old.part → length pass.old.part.popped ≡ pass.old.part.pushed) }
     {

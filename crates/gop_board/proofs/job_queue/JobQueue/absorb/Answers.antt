@@ -12,4 +12,4 @@ learn_as-requires-clause-rule c = held _ _ (ap (λ (p : Part). p.live) c.absorb.
 
 pub returns-clause-once : goal.returns-clause-once
 returns-clause-once c = λ number.
-    subst (λ (p : Part). times number (given p) ≤ 1) (sym c.learn_as.ensures.queue.1) (held-once _ _ c.learn_as.ensures.rule.1 number)
+    subst (λ (p : Part). times number (given p) ≤ 1) (sym c.learn_as.ensures.queue.1) (held-once _ _ _ c.learn_as.ensures.rule.1 number)
