@@ -117,6 +117,7 @@ impl Lesson<u64, Part> for Takes {
 }
 
 /// A queue of job numbers that threads share. Contracts see which queue it is, and the number of jobs that it was made for.
+#[derive(Drop)]
 pub struct JobQueue {
     numbers: Numbers,
 }
