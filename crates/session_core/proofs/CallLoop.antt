@@ -29,7 +29,7 @@ use Rattle.session_core.specs.Held.{Leads}
 use Rattle.session_core.specs.Moments.{Moment, opening, plan_at}
 use Rattle.session_core.specs.Questions.{AreAnswered, IsAsked, questions, questions_in}
 use Rattle.session_core.specs.Sessions.{AreTurns, AreKeyDecisions, Headline, IsSessionRun, KeepsSchedule, moment_after, accepted_in, commands_of, entries_of, handed_entries, packets_of}
-use Rattle.session_core.specs.States.{moment_of, IsReady, KeepsKeys}
+use Rattle.session_core.specs.States.{moment_of, IsKept, IsReady}
 use Rattle.session_core.specs.Steps.{AreSteps, Fails, IsStep}
 use Rattle.session_core.specs.Taken.{IsTaken, handed_at, packet_of}
 use Rattle.session_core.specs.Told.{Counts, DetectorTold, FailsBehind, Grew, Handed, Heard, IsLater}
@@ -45,19 +45,19 @@ use Rattle.session_core.proofs.Telling.{answered-append, answered-none, counts-f
 pub record Carried {T O : Type 0} (enc : EncoderConfig) (done : List (Call T O)) (turns : List (Turn T O)) (state : SessionState T O) (before now : Heard T) : Type 0 where
   pub leads : Leads enc done turns (moment_of state)
   pub steps : AreSteps enc done turns opening (moment_of state) before now
-  pub keys : KeepsKeys state
+  pub kept : IsKept enc state
   pub taken : IsTaken (handed_turns enc state.decisions.items opening done turns) (entries_of turns) (packets_of turns) before.coder now.coder
   pub counted : Counts before.coder.fails_after now.coder.fails_after (length (entries_of turns))
   pub asked : IsAsked enc (accepted_in done turns) state.decisions.items before now
   pub later : IsLater before now
 
 pub carried-opening : {T O : Type 0} (enc : EncoderConfig) (turns : List (Turn T O)) (state : SessionState T O) (heard : Heard T) →
-    turns ≡ [] → moment_of state ≡ opening → KeepsKeys state → Carried {T = T} {O = O} enc [] turns state heard heard
-carried-opening {T} {O} enc turns state heard none opened keys =
+    turns ≡ [] → moment_of state ≡ opening → IsKept enc state → Carried {T = T} {O = O} enc [] turns state heard heard
+carried-opening {T} {O} enc turns state heard none opened kept =
     subst (λ (t : List (Turn T O)). Carried {T = T} {O = O} enc [] t state heard heard) (sym none) (record {
       leads = record { answered = tt; leads = opened };
       steps = (opened, refl);
-      keys = keys;
+      kept = kept;
       taken = taken-none heard.coder;
       counted = counts-none heard.coder.fails_after;
       asked = subst (λ (d : List Decision). IsAsked {T = T} {O = O} enc [] d heard heard) (sym undecided)
@@ -69,7 +69,7 @@ carried-opening {T} {O} enc turns state heard none opened keys =
     undecided = ap (λ (m : Moment T O). m.decisions) opened
 
 -- no call changes a decision
-received-kept : {T O : Type 0} (moment : Moment T O) (log : List LogEntry) (reply : Reply T O) → (after_receive moment log reply).decisions ≡ moment.decisions
+pub received-kept : {T O : Type 0} (moment : Moment T O) (log : List LogEntry) (reply : Reply T O) → (after_receive moment log reply).decisions ≡ moment.decisions
 received-kept moment log (GivesPacket packet) = refl
 received-kept moment log (Sent number) = refl
 received-kept moment log Flushed = refl
@@ -139,13 +139,13 @@ steps-push enc (first ∷ done) (other ∷ turns) call turn before middle after 
 -- one more call
 pub carried-step : {T O : Type 0} (enc : EncoderConfig) (done : List (Call T O)) (turns all : List (Turn T O)) (state after : SessionState T O)
     (before now then : Heard T) (call : Call T O) (turn : Turn T O) → 1 ≤ enc.speed_settings.rdo_lookahead_frames →
-    Carried enc done turns state before now → IsStep enc call turn (moment_of state) (moment_of after) now then → KeepsKeys after → IsLater now then →
+    Carried enc done turns state before now → IsStep enc call turn (moment_of state) (moment_of after) now then → IsKept enc after → IsLater now then →
     all ≡ turns ++ turn ∷ [] → Carried enc (done ++ call ∷ []) all after before then
-carried-step {T} {O} enc done turns all state after before now then call turn looks carried step keys later put =
+carried-step {T} {O} enc done turns all state after before now then call turn looks carried step kept later put =
     subst (λ (t : List (Turn T O)). Carried enc (done ++ call ∷ []) t after before then) (sym put) (record {
       leads = leads-step enc done turns was is call turn carried.leads step.answered step.moment;
       steps = steps-push enc done turns call turn opening was is before now then carried.steps step;
-      keys = keys;
+      kept = kept;
       taken = taken;
       counted = subst (Counts before.coder.fails_after then.coder.fails_after) (sym (ap (λ (l : List LogEntry). length l) entries ∙ length-append (entries_of turns) turn.log))
           (counts-then before.coder.fails_after now.coder.fails_after then.coder.fails_after (length (entries_of turns)) (length turn.log) carried.counted step.counted);

@@ -1,5 +1,6 @@
 -- Calls of a context: what one keeps, and what it answers.
-use Rattle.std.proofs.Common.{◌≡◌, ◌≢◌, ℕ, ◌≤◌, ◌⊎◌, inl, inr, List, [], ◌∷◌, ◌++◌, Bool, true, false, MatchOption, MatchBool, IfOk, IfErr, Option, Some, None, is_some, Result, Ok, Err, refl, sym, ap, subst}
+use Rattle.std.proofs.Common.{◌≡◌, ◌≢◌, ℕ, ◌-◌, ◌≤◌, length, ◌⊎◌, inl, inr, List, [], ◌∷◌, ◌++◌, Bool, true, false, MatchOption, MatchBool, IfOk, IfErr, Option, Some, None, is_some, Result, Ok, Err, refl, sym, ap, subst, arith}
+use Rattle.std.proofs.lemmas.List.{length-map}
 use Rattle.av1_frame.specs.declared.frame.Frame.{Frame}
 use Rattle.av1_settings.specs.declared.encoder.EncoderConfig.{EncoderConfig}
 use Rattle.av1_settings.specs.declared.status.EncoderStatus.{EncoderStatus}
@@ -21,7 +22,7 @@ use Rattle.session_core.specs.declared.transcript.Turn.{Turn}
 use Rattle.session_core.specs.Contexts.{Session, GivesDone, GivesReply, IsAnswered, IsCall, IsFailed, IsReceiveReply, IsSend, Asks, RunsOut, status_of}
 use Rattle.session_core.specs.Held.{IsHeld, IsReached, Leads}
 use Rattle.session_core.specs.Moments.{Moment, opening}
-use Rattle.session_core.specs.States.{moment_of, IsReady, KeepsKeys}
+use Rattle.session_core.specs.States.{moment_of, waiting_of, IsKept, IsReady}
 use Rattle.session_core.specs.Steps.{Fails, IsStep, Unused, WhereRefused}
 use Rattle.session_core.specs.Told.{Heard, IsLater}
 use Rattle.session_core.specs.Turns.{held_back, is_showing, IsNextPacket, IsTurn, CodesNext, OnlyReplies}
@@ -30,11 +31,11 @@ use Rattle.session_core.proofs.CallLoop.{leads-ready, leads-step}
 -- ---- what is kept
 
 pub held-fresh : {T O : Type 0} (enc : EncoderConfig) (state : SessionState T O) (failure : Option SessionFault) → IsValid enc →
-    moment_of state ≡ opening → KeepsKeys state → IsHeld enc state failure
-held-fresh {T} {O} enc state failure valid opened keys = record {
+    moment_of state ≡ opening → IsKept enc state → IsHeld enc state failure
+held-fresh {T} {O} enc state failure valid opened kept = record {
   valid = valid;
   reached = λ none. ([], [], record { answered = tt; leads = opened });
-  keys = λ none. keys;
+  kept = λ none. kept;
 }
 
 pub held-ready : {T O : Type 0} (enc : EncoderConfig) (state : SessionState T O) (failure : Option SessionFault) → IsHeld enc state failure →
@@ -43,16 +44,22 @@ held-ready enc state failure held none =
     let (calls, turns, leads) = held.reached none in
     leads-ready enc calls turns (moment_of state) held.valid.looks_ahead leads
 
+-- the frames that are held are the accepted ones less the packets given
+pub held-frames : {T O : Type 0} (enc : EncoderConfig) (state : SessionState T O) (failure : Option SessionFault) (count : ℕ) → IsHeld enc state failure →
+    failure ≡ None → count ≡ length state.waiting.items → count ≡ state.accepted - state.packets
+held-frames enc state failure count held none size =
+    omega (arith, size, (held-ready enc state failure held none).waits, length-map state.waiting.items waiting_of)
+
 -- one more call
 pub held-step : {T O : Type 0} (enc : EncoderConfig) (state after : SessionState T O) (failure failure_after : Option SessionFault) (call : Call T O) (turn : Turn T O)
-    (told now : Heard T) → IsHeld enc state failure → failure ≡ None → IsStep enc call turn (moment_of state) (moment_of after) told now → KeepsKeys after →
+    (told now : Heard T) → IsHeld enc state failure → failure ≡ None → IsStep enc call turn (moment_of state) (moment_of after) told now → IsKept enc after →
     IsHeld enc after failure_after
-held-step enc state after failure failure_after call turn told now held none step keys =
+held-step enc state after failure failure_after call turn told now held none step kept =
     let (calls, turns, leads) = held.reached none in
     record {
       valid = held.valid;
       reached = λ still. (calls ++ call ∷ [], turns ++ turn ∷ [], leads-step enc calls turns (moment_of state) (moment_of after) call turn leads step.answered step.moment);
-      keys = λ still. keys;
+      kept = λ still. kept;
     }
 
 -- where the session failed nothing more is kept
@@ -61,7 +68,7 @@ pub held-failed : {T O : Type 0} (enc : EncoderConfig) (state after : SessionSta
 held-failed enc state after failure failure_after fault held is = record {
   valid = held.valid;
   reached = λ none. absurd (cc);
-  keys = λ none. absurd (cc);
+  kept = λ none. absurd (cc);
 }
 
 -- ---- what is answered
@@ -81,6 +88,15 @@ module _ {T O D C A : Type 0} (Gives : Reply T O → Result A EncoderStatus → 
 
   pub call-refused : (fault : SessionFault) → before.failure ≡ Some fault → result ≡ Err Failure → after ≡ before → IsCall Gives call before after told now result
   call-refused fault some refused same = subst CallOf (sym some) (refused, same)
+
+-- in a session that has failed nothing is called
+pub call-of-failed : {T O D C : Type 0} (call : Call T O) (before : Session T O D C) (told now : Heard T) → is_some before.failure ≡ true →
+    IsCall GivesReply call before before told now (Err Failure)
+call-of-failed {T} {O} {D} {C} call before told now some = by_failure before.failure some
+  where
+    by_failure : (failure : Option SessionFault) → is_some failure ≡ true → CallOf GivesReply call before before told now (Err Failure) failure
+    by_failure None some = absurd (cc)
+    by_failure (Some fault) some = (refl, refl)
 
 -- the record of a context
 abbrev pub session_of : {T O D C : Type 0} → EncoderConfig → SessionState T O → Option SessionFault → D → C → Session T O D C

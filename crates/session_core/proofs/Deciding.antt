@@ -1,5 +1,5 @@
 -- What deciding positions does to the state of a session, and what is asked.
-use Rattle.std.proofs.Common.{◌≡◌, ℕ, suc, ◌+◌, ◌-◌, ◌≤◌, ◌<◌, Bool, true, false, cond, eqb, IsTrue, List, [], ◌∷◌, ◌++◌, map, filter, length, get_or, take, drop, Option, Some, None, IfSome, IfOk, Result, Ok, Err, refl, sym, ◌∙◌, ap, ap₂, subst, append_assoc, append-nil, arith}
+use Rattle.std.proofs.Common.{◌≡◌, ℕ, suc, ◌+◌, ◌-◌, ◌≤◌, ◌<◌, Bool, true, false, cond, eqb, IsTrue, List, [], ◌∷◌, ◌++◌, map, filter, length, get_or, take, drop, Option, Some, None, IfSome, IfOk, Result, Ok, Err, refl, sym, ◌∙◌, ap, ap₂, subst, subst₂, append_assoc, append-nil, arith}
 use Rattle.std.specs.List.{flat_map, range_with_len}
 use Rattle.std.proofs.lemmas.Bool.{false≢true, ne_eqb}
 use Rattle.std.proofs.Math.Seq.{drop-append_seam, drop-length, take-append_seam, take-length}
@@ -14,31 +14,46 @@ use Rattle.pyramid.specs.Settings.{numbers_of}
 use Rattle.session_core.specs.declared.state.SessionState.{SessionState}
 use Rattle.session_core.specs.declared.waiting.WaitingFrame.{WaitingFrame}
 use Rattle.session_core.specs.declared.transcript.Decision.{Decision}
-use Rattle.session_core.specs.Decisions.{decided_count, decisions_at, key_positions, keys_of}
+use Rattle.session_core.specs.Decisions.{decided_count, decisions_at, key_positions}
 use Rattle.session_core.specs.Moments.{Waiting, Moment}
 use Rattle.session_core.specs.Questions.{AreAnswered, IsAskedIn, frames_from, last_key, made_in, question}
-use Rattle.session_core.specs.States.{AreInOrder, Decided, waiting_of, moment_of, KeepsKeys}
+use Rattle.session_core.specs.States.{AreInOrder, Decided, waiting_of, moment_of, KeepsLastKey, TakesKeys}
 use Rattle.session_core.specs.Told.{Asked, Grew, GrowsBy, told_ask}
 use Rattle.session_core.specs.Turns.{AreMade, Decides, forced_at}
 use Rattle.session_core.proofs.Asking.{ArePlaced, last_key-is, last_key-later, questions-agree}
-use Rattle.session_core.proofs.Decided.{IsMarkedKey, position_of, range-append}
+use Rattle.session_core.proofs.Decided.{IsMarkedKey, keys-append, position_of, range-append}
+use Rattle.session_core.proofs.Scheduling.{takes-none, takes-then}
 use Rattle.session_core.proofs.Telling.{answered-append, answered-none, answered-one, grew-none, grew-then, grows-ok}
 
--- one more decision, which is a key or not
-pub keys_of-push : (accepted : ℕ) (decisions : List Decision) (one : Decision) → 0 < accepted →
-    keys_of accepted (decisions ++ one ∷ []) ≡ keys_of accepted decisions ++ cond one.key (one.position ∷ []) []
-keys_of-push accepted decisions one some =
-    let e : eqb accepted 0 ≡ false = ne_eqb accepted 0 (λ is. omega arith) in
-    rw (
-      e,
-      filter-append (λ (d : Decision). d.key) decisions (one ∷ []),
-      map-append (λ (d : Decision). d.position) (filter (λ (d : Decision). d.key) decisions) (filter (λ (d : Decision). d.key) (one ∷ [])),
-    )
-    (ap (λ (l : List ℕ). 0 ∷ (key_positions decisions ++ l)) (last one.key))
+-- one more decision, of the next position
+pushed-order : (decisions : List Decision) (one : Decision) → AreInOrder decisions → one.position ≡ length decisions + 1 → AreInOrder (decisions ++ one ∷ [])
+pushed-order decisions one in_order next =
+    map-append position_of decisions (one ∷ [])
+    ∙ ap₂ (λ (a b : List ℕ). a ++ b) in_order (ap (λ (n : ℕ). n ∷ []) (next ∙ turned))
+    ∙ range-append 1 (length decisions) 1
+    ∙ ap (range_with_len 1) (sym (length-append decisions (one ∷ [])))
   where
-    last : (key : Bool) → map (λ (d : Decision). d.position) (cond key (one ∷ []) []) ≡ cond key (one.position ∷ []) []
-    last true = refl
-    last false = refl
+    turned : length decisions + 1 ≡ 1 + length decisions
+    turned = omega arith
+
+get-last : (first : ℕ) (keys : List ℕ) (key : ℕ) → get_or (first ∷ (keys ++ key ∷ [])) (length (keys ++ key ∷ [])) 0 ≡ key
+get-last first [] key = refl
+get-last first (other ∷ keys) key = get-last other keys key
+
+-- it is the last key where it is a key
+last-pushed : (decisions : List Decision) (one : Decision) → AreInOrder decisions → one.position ≡ length decisions + 1 →
+    cond one.key one.position (last_key decisions (length decisions + 1)) ≡ last_key (decisions ++ one ∷ []) (length (decisions ++ one ∷ []) + 1)
+last-pushed decisions one in_order next =
+    by_key one.key
+    ∙ sym (ap last_of (keys-append decisions (one ∷ [])))
+    ∙ sym (last_key-is (decisions ++ one ∷ []) (pushed-order decisions one in_order next))
+  where
+    last_of : List ℕ → ℕ
+    last_of = λ keys. get_or (0 ∷ keys) (length keys) 0
+
+    by_key : (key : Bool) → cond key one.position (last_key decisions (length decisions + 1)) ≡ last_of (key_positions decisions ++ map position_of (cond key (one ∷ []) []))
+    by_key true = sym (get-last 0 (key_positions decisions) one.position)
+    by_key false = last_key-is decisions in_order ∙ sym (ap last_of (append-nil (key_positions decisions)))
 
 -- ---- deciding
 
@@ -58,15 +73,16 @@ made-append m from a b first then = record {
 }
 
 module _ {T O : Type 0} (mode : SceneDetectionSpeed) where
-  pub decided-none : (state : SessionState T O) (told : Option (List (Asked T))) (answers : Option (ℕ → Bool)) → KeepsKeys state →
+  pub decided-none : (state : SessionState T O) (told : Option (List (Asked T))) (answers : Option (ℕ → Bool)) → KeepsLastKey state →
       Decided mode state state told told answers (length state.decisions.items)
-  decided-none state told answers keys = record {
+  decided-none state told answers last_kept = record {
     others = refl;
     made = [];
     decisions = sym (append-nil state.decisions.items);
     count = refl;
     are = record { positions = refl; forced = refl; keys = All-nil IsMarkedKey };
-    keys = keys;
+    last_key = last_kept;
+    schedule = takes-none (length state.decisions.items + 1) state.schedule;
     grew = grew-none told;
     ahead = answered-none answers;
   }
@@ -86,15 +102,15 @@ module _ {T O : Type 0} (mode : SceneDetectionSpeed) where
 
   -- one position: with its frame's mark, after what is asked of it
   pub decided-one : (before after : SessionState T O) (told told_after : Option (List (Asked T))) (answers : Option (ℕ → Bool)) (p : ℕ) (forced key : Bool) →
-      after ≡ record before { decisions = after.decisions; keys = after.keys } →
+      after ≡ record before { decisions = after.decisions; last_key = after.last_key; schedule = after.schedule } →
       after.decisions.items ≡ before.decisions.items ++ record { position = p; forced = forced; key = key } ∷ [] →
-      after.keys.items ≡ before.keys.items ++ cond key (p ∷ []) [] →
-      KeepsKeys before → 0 < before.accepted → p ≡ length before.decisions.items + 1 →
+      after.last_key ≡ cond key p before.last_key → TakesKeys p (cond key (p ∷ []) []) before.schedule after.schedule →
+      KeepsLastKey before → AreInOrder before.decisions.items → p ≡ length before.decisions.items + 1 →
       forced ≡ forced_at (moment_of before) p → (IsTrue forced → IsTrue key) →
       Grew told told_after (question mode (frames_from (moment_of before)) before.decisions.items (record { position = p; forced = forced; key = key })) →
       AreAnswered answers (record { position = p; forced = forced; key = key } ∷ []) →
       Decided mode before after told told_after answers p
-  decided-one before after told told_after answers p forced key only grown keys kept some next mark marked grew ahead = record {
+  decided-one before after told told_after answers p forced key only grown last takes kept in_order next mark marked grew ahead = record {
     others = only;
     made = one ∷ [];
     decisions = grown;
@@ -104,17 +120,21 @@ module _ {T O : Type 0} (mode : SceneDetectionSpeed) where
       forced = ap (λ (b : Bool). b ∷ []) (mark ∙ ap (forced_at (moment_of before)) next);
       keys = All-cons IsMarkedKey one [] marked (All-nil IsMarkedKey);
     };
-    keys = keys
-        ∙ ap (λ (l : List ℕ). l ++ cond key (p ∷ []) []) kept
-        ∙ sym (keys_of-push before.accepted before.decisions.items one some)
-        ∙ ap (keys_of before.accepted) (sym grown)
-        ∙ ap (λ (s : SessionState T O). keys_of s.accepted after.decisions.items) (sym only);
+    last_key = last
+        ∙ ap (cond key p) kept
+        ∙ last-pushed before.decisions.items one in_order next
+        ∙ ap (λ (l : List Decision). last_key l (length l + 1)) (sym grown);
+    schedule = subst₂ (λ (n : ℕ) (l : List ℕ). TakesKeys n l before.schedule after.schedule) next (sym (new_keys key)) takes;
     grew = subst (Grew told told_after) (sym (asked_here ∙ append-nil (question mode frames before.decisions.items one))) grew;
     ahead = ahead;
   }
     where
       one : Decision
       one = record { position = p; forced = forced; key = key }
+
+      new_keys : (k : Bool) → map position_of (cond k (one ∷ []) []) ≡ cond k (p ∷ []) []
+      new_keys true = refl
+      new_keys false = refl
 
       frames : ℕ → List (Frame T)
       frames = frames_from (moment_of before)
@@ -136,14 +156,17 @@ module _ {T O : Type 0} (mode : SceneDetectionSpeed) where
       Decided mode before between told then answers middle → Decided mode between after then told_after answers last →
       Decided mode before after told told_after answers last
   decided-then before between after told then told_after answers middle last first second = record {
-    others = second.others ∙ ap (λ (s : SessionState T O). let t : SessionState T O = record s { decisions = after.decisions; keys = after.keys } in t) first.others;
+    others = second.others ∙ ap (λ (s : SessionState T O). let t : SessionState T O = record s { decisions = after.decisions; last_key = after.last_key; schedule = after.schedule } in t) first.others;
     made = first.made ++ second.made;
     decisions = second.decisions ∙ ap (λ (l : List Decision). l ++ second.made) first.decisions
         ∙ append_assoc before.decisions.items first.made second.made;
     count = second.count;
     are = made-append (moment_of before) (length before.decisions.items + 1) first.made second.made first.are
         (record { positions = made_then.positions; forced = made_then.forced; keys = made_then.keys });
-    keys = second.keys;
+    last_key = second.last_key;
+    schedule = subst (λ (l : List ℕ). TakesKeys (length before.decisions.items + 1) l before.schedule after.schedule) (sym (keys-append first.made second.made))
+        (takes-then (length before.decisions.items + 1) (length between.decisions.items + 1) (key_positions first.made) (key_positions second.made)
+        before.schedule between.schedule after.schedule (omega (arith, seam)) first.schedule second.schedule);
     grew = subst (Grew told told_after) (sym asked) (grew-then told then told_after _ _ first.grew grew_then);
     ahead = answered-append answers first.made second.made first.ahead second.ahead;
   }
@@ -155,8 +178,8 @@ module _ {T O : Type 0} (mode : SceneDetectionSpeed) where
       seam = omega (arith, ap (λ (l : List Decision). length l) first.decisions, length-append before.decisions.items first.made)
 
       -- the second ones, from the first moment
-      made_then : AreMade (moment_of (record before { decisions = between.decisions; keys = between.keys })) (length before.decisions.items + 1 + length first.made) second.made
-      made_then = subst (λ (n : ℕ). AreMade (moment_of (record before { decisions = between.decisions; keys = between.keys })) n second.made) seam
+      made_then : AreMade (moment_of (record before { decisions = between.decisions; last_key = between.last_key; schedule = between.schedule })) (length before.decisions.items + 1 + length first.made) second.made
+      made_then = subst (λ (n : ℕ). AreMade (moment_of (record before { decisions = between.decisions; last_key = between.last_key; schedule = between.schedule })) n second.made) seam
           (subst (λ (s : SessionState T O). AreMade (moment_of s) (length between.decisions.items + 1) second.made) first.others second.are)
 
       grew_then : Grew then told_after (flat_map (question mode frames after.decisions.items) second.made)
@@ -297,25 +320,6 @@ frames-all {T} {O} state position first index frames at done all =
     ∙ ap (λ (n : ℕ). map waiting_picture (drop n state.waiting.items)) at
     ∙ sym (ap (map (λ (w : Waiting T O). w.frame.picture)) (drop-map waiting_of (position - 1 - state.packets) state.waiting.items)
     ∙ map-map (λ (w : Waiting T O). w.frame.picture) waiting_of (drop (position - 1 - state.packets) state.waiting.items))
-
--- the last of the keys kept is the greatest decided so far
-pub last-kept : {T O : Type 0} (state : SessionState T O) (key : ℕ) → KeepsKeys state → 0 < state.accepted → AreInOrder state.decisions.items →
-    key ≡ get_or state.keys.items (length state.keys.items - 1) key → key ≡ last_key state.decisions.items (length state.decisions.items + 1)
-last-kept state key keys some in_order read =
-    read
-    ∙ get_or_default state.keys.items (length state.keys.items - 1) key 0 within
-    ∙ ap (λ (l : List ℕ). get_or l (length l - 1) 0) kept
-    ∙ ap (λ (n : ℕ). get_or (0 ∷ key_positions state.decisions.items) n 0) size
-    ∙ sym (last_key-is state.decisions.items in_order)
-  where
-    kept : state.keys.items ≡ 0 ∷ key_positions state.decisions.items
-    kept = keys ∙ ap (λ (b : Bool). cond b [] (0 ∷ key_positions state.decisions.items)) (ne_eqb state.accepted 0 (λ is. omega arith))
-
-    within : length state.keys.items - 1 < length state.keys.items
-    within = omega (arith, ap (λ (l : List ℕ). length l) kept)
-
-    size : suc (length (key_positions state.decisions.items)) - 1 ≡ length (key_positions state.decisions.items)
-    size = omega arith
 
 -- ---- one question
 

@@ -14,6 +14,7 @@ mod PlanAt
 mod PlanFronts
 mod RunHistory
 mod Schedules
+mod Scheduling
 pub mod SessionLaws
 mod Sound
 mod SoundTurns

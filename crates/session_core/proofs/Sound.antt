@@ -181,9 +181,6 @@ module _ {T O : Type 0} (enc : EncoderConfig) (whole : List Decision) (moment : 
     decided = sound.decided;
     in_order = sound.are.positions;
     late = late;
-    there = λ due. further moment.commands (length (known_at enc moment)) (length (plan_at enc moment)) (there due) (known-within enc moment);
+    there = there;
     next = can;
   }
-    where
-      further : (a b c : ℕ) → a < b → b ≤ c → a < c
-      further a b c h k = omega arith

@@ -25,7 +25,7 @@ use Rattle.session_core.specs.declared.transcript.Turn.{Turn}
 use Rattle.session_core.specs.declared.state.SessionState.{SessionState}
 use Rattle.session_core.specs.declared.waiting.WaitingFrame.{WaitingFrame}
 use Rattle.pyramid.specs.Numbers.{Numbers}
-use Rattle.session_core.specs.Decisions.{decided_count, key_positions, keys_of}
+use Rattle.session_core.specs.Decisions.{decided_count}
 use Rattle.session_core.specs.Moments.{Waiting, Moment, plan_at, waiting_at}
 use Rattle.session_core.specs.States.{CanCode, Carries, FailsCoding, gave_of, told_at, waiting_of, moment_of}
 use Rattle.session_core.specs.Steps.{FailsReceiving, WhereRefused}
@@ -223,20 +223,10 @@ received-refused {T} {O} Holds m entry reply received = by_shown (is_showing ent
     by_shown true (packet, gives, next) = subst (λ (r : Reply T O). WhereRefused r Holds) (sym gives) tt
     by_shown false hidden = subst (λ (r : Reply T O). WhereRefused r Holds) (sym hidden) tt
 
--- ---- the keys kept
-
+-- nothing is decided of no frames
 pub decided-zero : (numbers : Numbers) (flushed : Bool) → decided_count numbers 0 flushed ≡ 0
 decided-zero numbers true = omega arith
 decided-zero numbers false = omega arith
-
-pub keys-first : (decisions : List Decision) → length decisions ≡ 0 → 0 ∷ [] ≡ keys_of 1 decisions
-keys-first [] none = refl
-keys-first (one ∷ decisions) none = absurd (omega (arith, none))
-
-pub keys-more : (accepted : ℕ) (decisions : List Decision) → 0 < accepted → keys_of accepted decisions ≡ keys_of (accepted + 1) decisions
-keys-more accepted decisions some =
-    ap (λ (b : Bool). cond b [] (0 ∷ key_positions decisions)) (ne_eqb accepted 0 (λ is. omega (arith, some)))
-    ∙ sym (ap (λ (b : Bool). cond b [] (0 ∷ key_positions decisions)) (ne_eqb (accepted + 1) 0 (λ is. omega arith)))
 
 -- ---- a call of the coder that fails
 

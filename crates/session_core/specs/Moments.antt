@@ -6,10 +6,12 @@ use Rattle.av1_settings.specs.declared.encoder.EncoderConfig.{EncoderConfig}
 use Rattle.av1_settings.specs.declared.frame_type.FrameType.{FrameType}
 use Rattle.av1_settings.specs.declared.t35.T35.{T35}
 use Rattle.pyramid.specs.declared.command.Command.{Command}
+use Rattle.pyramid.specs.declared.place.Place.{Place}
 use Rattle.av1_settings.specs.Settings.{interval_of}
 use Rattle.pyramid.specs.Settings.{numbers_of}
 use Rattle.pyramid.specs.Plan.{plan}
 use Rattle.pyramid.specs.Known.{known}
+use Rattle.pyramid.specs.Places.{places_from, settled_places}
 use Rattle.session_core.specs.declared.transcript.Decision.{Decision}
 use Rattle.session_core.specs.Decisions.{keys_of}
 
@@ -72,3 +74,10 @@ known_at enc moment =
     if moment.flushed
     then plan_at enc moment
     else known (numbers_of enc) (interval_of enc.max_key_frame_interval) moment.accepted (keys_of moment.accepted moment.decisions)
+
+-- the places that are known, from that of the next command on
+abbrev pub places_ahead : {T O : Type 0} → EncoderConfig → Moment T O → List Place
+places_ahead enc moment =
+    places_from moment.commands
+    (settled_places (numbers_of enc) (interval_of enc.max_key_frame_interval) moment.accepted moment.flushed
+    (keys_of moment.accepted moment.decisions))

@@ -7,6 +7,10 @@ use Rattle.av1_settings.specs.declared.encoder.EncoderConfig.{EncoderConfig}
 use Rattle.av1_settings.specs.declared.speed.SceneDetectionSpeed.{SceneDetectionSpeed}
 use Rattle.pyramid.specs.declared.command.Command.{Command}
 use Rattle.pyramid.specs.declared.command.Command.TheVariants.{Code, Show}
+use Rattle.pyramid.specs.declared.schedule.Schedule.{Schedule}
+use Rattle.av1_settings.specs.Settings.{interval_of}
+use Rattle.pyramid.specs.Numbers.{Numbers, ahead}
+use Rattle.pyramid.specs.Schedules.{IsSchedule}
 use Rattle.pyramid.specs.Settings.{numbers_of}
 use Rattle.session_core.specs.declared.coded.Coded.{Coded}
 use Rattle.session_core.specs.declared.fault.SessionFault.{SessionFault}
@@ -15,9 +19,9 @@ use Rattle.session_core.specs.declared.waiting.WaitingFrame.{WaitingFrame}
 use Rattle.session_core.specs.declared.state.SessionState.{SessionState}
 use Rattle.session_core.specs.declared.transcript.Decision.{Decision}
 use Rattle.session_core.specs.declared.transcript.Reply.{Reply}
-use Rattle.session_core.specs.Decisions.{decided_count, keys_of}
-use Rattle.session_core.specs.Moments.{Waiting, Moment, waiting_at, plan_at}
-use Rattle.session_core.specs.Questions.{AreAnswered, frames_from, question}
+use Rattle.session_core.specs.Decisions.{decided_count, key_positions, keys_of}
+use Rattle.session_core.specs.Moments.{Waiting, Moment, waiting_at, known_at, plan_at}
+use Rattle.session_core.specs.Questions.{AreAnswered, frames_from, last_key, question}
 use Rattle.session_core.specs.Taken.{handed_at, packet_of}
 use Rattle.session_core.specs.Told.{Asked, CoderTold, Gave, Told, FailsBehind, Grew}
 use Rattle.session_core.specs.Turns.{AreMade, frame_limit, held_back, is_showing}
@@ -44,9 +48,28 @@ moment_of state = record {
   pending = state.pending.items;
 }
 
--- the keys kept are those of the moment
-abbrev pub KeepsKeys : {T O : Type 0} → SessionState T O → Type 0
-KeepsKeys state = state.keys.items ≡ keys_of state.accepted state.decisions.items
+-- the last key kept is the greatest that is decided
+abbrev pub KeepsLastKey : {T O : Type 0} → SessionState T O → Type 0
+KeepsLastKey state =
+    state.last_key ≡ last_key state.decisions.items (length state.decisions.items + 1)
+
+-- a schedule is that of a moment: the moment's known places from that of the next command on
+abbrev pub IsScheduled : {T O : Type 0} → EncoderConfig → Moment T O → Schedule → Type 0
+IsScheduled enc moment schedule =
+    IsSchedule (numbers_of enc) (interval_of enc.max_key_frame_interval) moment.accepted moment.flushed
+    (keys_of moment.accepted moment.decisions) moment.commands schedule
+
+-- what a state keeps beside its moment: the last key, and the schedule
+unfoldable pub IsKept : {T O : Type 0} → EncoderConfig → SessionState T O → Type 0
+IsKept enc state = KeepsLastKey state × IsScheduled enc (moment_of state) state.schedule
+
+-- a schedule takes in keys of positions from `from` on, none of which was decided with its frames
+abbrev pub TakesKeys : ℕ → List ℕ → Schedule → Schedule → Type 0
+TakesKeys from new before after =
+    (numbers : Numbers) (interval frames : ℕ) (keys : List ℕ) (commands : ℕ) →
+    frames ≤ from + ahead numbers →
+    IsSchedule numbers interval frames false keys commands before →
+    IsSchedule numbers interval frames false (keys ++ new) commands after
 
 -- the decisions are those of the positions from 1 on, in order
 abbrev pub AreInOrder : List Decision → Type 0
@@ -55,12 +78,14 @@ AreInOrder decisions = map (λ decision. decision.position) decisions ≡ range_
 -- the positions up to `last` that weren't decided are decided now, and nothing else changed; of each the detector was asked
 -- whose frame wasn't sent as a key frame
 pub record Decided {T O : Type 0} (mode : SceneDetectionSpeed) (before after : SessionState T O) (told told_after : Option (List (Asked T))) (answers : Option (ℕ → Bool)) (last : ℕ) : Type 0 where
-  pub others : after ≡ record before { decisions = after.decisions; keys = after.keys }
+  pub others : after
+      ≡ record before { decisions = after.decisions; last_key = after.last_key; schedule = after.schedule }
   pub made : List Decision
   pub decisions : after.decisions.items ≡ before.decisions.items ++ made
   pub count : length after.decisions.items ≡ last
   pub are : AreMade (moment_of before) (length before.decisions.items + 1) made
-  pub keys : KeepsKeys after
+  pub last_key : KeepsLastKey after
+  pub schedule : TakesKeys (length before.decisions.items + 1) (key_positions made) before.schedule after.schedule
   pub grew : Grew told told_after (flat_map (question mode (frames_from (moment_of before)) after.decisions.items) made)
   pub ahead : AreAnswered answers made
 
@@ -77,8 +102,8 @@ pub record IsReady {T O : Type 0} (enc : EncoderConfig) (moment : Moment T O) : 
   pub in_order : AreInOrder moment.decisions
   -- the lookahead keeps the frame before the next undecided position
   pub late : moment.flushed ≡ false → moment.packets ≤ length moment.decisions
-  -- where a receive is to code, the next command is there, and can be coded
-  pub there : held_back enc moment ≡ None → moment.commands < length (plan_at enc moment)
+  -- where a receive is to code, the next command is known, and can be coded
+  pub there : held_back enc moment ≡ None → moment.commands < length (known_at enc moment)
   pub next : (command : Command) → slice_get (plan_at enc moment) moment.commands ≡ Some command → CanCode moment command
 
 -- a call of the coder failed: its count rose and it told nothing, or memory ran out

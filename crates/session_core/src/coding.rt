@@ -100,7 +100,8 @@ impl<T: Drop, O: Drop> SessionState<T, O> {
         ensures after { IfOk result (λ reply.
             moment_of self.new
             ≡ after_receive (moment_of self.old) (coded.old.entry ∷ []) reply) }
-        ensures keys { self.new.keys.items ≡ self.old.keys.items }
+        ensures last_key { self.new.last_key ≡ self.old.last_key }
+        ensures schedule { self.new.schedule ≡ self.old.schedule }
         ensures entry { coded.new.entry ≡ coded.old.entry }
     {
         if coded.is_showing() {
@@ -124,7 +125,8 @@ impl<T: Drop, O: Drop> SessionState<T, O> {
         ensures after { moment_of self.new
             ≡ record (moment_of self.old)
             { waiting = noted self.old.packets (moment_of self.old).waiting entry.now } }
-        ensures keys { self.new.keys.items ≡ self.old.keys.items }
+        ensures last_key { self.new.last_key ≡ self.old.last_key }
+        ensures schedule { self.new.schedule ≡ self.old.schedule }
     {
         if let Command::Code { frame, kind, .. } = entry.command {
             self.waiting[(frame - self.packets) as usize].kind = Some(kind);
@@ -143,7 +145,8 @@ impl<T: Drop, O: Drop> SessionState<T, O> {
         ensures after { OnOk result (
             moment_of self.new
             ≡ record (moment_of self.old) { waiting = drop 1 (moment_of self.old).waiting }) }
-        ensures keys { self.new.keys.items ≡ self.old.keys.items }
+        ensures last_key { self.new.last_key ≡ self.old.last_key }
+        ensures schedule { self.new.schedule ≡ self.old.schedule }
     {
         let mut bytes = Vec::from_slice(alloc, &DELIMITER)?;
         bytes.extend_from_slice(&self.pending)?;

@@ -1,5 +1,5 @@
 // A session that is called one call at a time.
-ghost use Rattle.std.specs.Prelude.{◌≡◌, ◌&&◌, ◌||◌, not, nat_lt, None, Some, Ok, Err, true, IfOk, IfErr, IsOk, IsSome, IsTrue, false, is_none};
+ghost use Rattle.std.specs.Prelude.{◌≡◌, ◌≤◌, ◌+◌, ◌-◌, length, ◌&&◌, ◌||◌, not, nat_lt, None, Some, Ok, Err, true, IfOk, IfErr, IsOk, IsSome, IsTrue, false, is_none};
 ghost use Rattle.av1_frame.specs.Planes.{IsFilled};
 ghost use Rattle.av1_frame.specs.Sizes.{chroma_size};
 ghost use Rattle.av1_settings.specs.declared.invalid.InvalidConfig.{InvalidConfig};
@@ -10,7 +10,7 @@ ghost use Rattle.session_core.specs.declared.transcript.Reply.TheVariants.{Flush
 ghost use Rattle.session_core.specs.declared.setup.SetupError.TheVariants.{Invalid, Unbuilt};
 ghost use Rattle.session_core.specs.Contexts.{GivesDone, GivesReceived, GivesReply, IsCall, IsReceiveReply, IsSend, asks_unbuilt, fresh, Asks};
 ghost use Rattle.std.specs.Option.{option_map};
-ghost use Rattle.session_core.specs.Moments.{is_complete};
+ghost use Rattle.session_core.specs.Moments.{is_complete, places_ahead};
 ghost use Rattle.session_core.specs.Told.{heard};
 ghost use Rattle.session_core.specs.Turns.{needs_more_data};
 
@@ -92,7 +92,7 @@ impl<T: Pixel, O: Drop, D: Detector<T> + Drop, C: FrameCoder<T> + Drop> ContextI
         }
         Ok(ContextInner {
             enc: cfg.enc,
-            state: SessionState::new(alloc),
+            state: SessionState::new(alloc, &cfg.enc),
             failure: None,
             detector,
             coder,
@@ -230,6 +230,26 @@ impl<T: Pixel, O: Drop, D: Detector<T> + Drop, C: FrameCoder<T> + Drop> ContextI
         ensures { result ≡ (self.now.moment.flushed && is_complete self.now.moment) }
     {
         self.state.flushed && self.state.is_complete()
+    }
+
+    /// How many accepted frames are held: those whose packets weren't given yet. No memory is taken.
+    pub fn frames_held(&self) -> usize
+        ensures length { result ≡ length self.now.moment.waiting }
+        ensures count { self.now.failure ≡ None
+            → result ≡ self.now.moment.accepted - self.now.moment.packets }
+    {
+        self.state.waiting.len()
+    }
+
+    /// How many places of the plan are held: in a session that hasn't failed the known ones from that of the next command
+    /// on, the rows that are cut counted. No memory is taken.
+    pub fn places_held(&self) -> usize
+        ensures known { self.now.failure ≡ None
+            → result ≡ length (places_ahead self.now.enc self.now.moment) }
+        ensures few { self.now.failure ≡ None
+            → result ≤ length (places_ahead self.now.enc self.now.moment) + 2 }
+    {
+        self.state.schedule.places_held()
     }
 
     /// Gives the coder back as the session's calls left it, also after a failure. No memory is taken.

@@ -1,7 +1,7 @@
 // How the key frames are decided.
 ghost use Rattle.std.specs.Prelude.{◌≡◌, ◌≤◌, ◌<◌, ◌-◌, ◌+◌, [], ◌∷◌, IfOk, IsTrue, OnOk, length, map};
-ghost use Rattle.session_core.specs.Questions.{AreAnswered, frames_from, last_key, question};
-ghost use Rattle.session_core.specs.States.{moment_of, AreInOrder, Decided, KeepsKeys};
+ghost use Rattle.session_core.specs.Questions.{AreAnswered, frames_from, question};
+ghost use Rattle.session_core.specs.States.{moment_of, AreInOrder, Decided, KeepsLastKey};
 ghost use Rattle.session_core.specs.Told.{Grew, IsDetectorLater};
 ghost use Rattle.session_core.specs.Turns.{forced_at, frame_limit};
 
@@ -28,7 +28,7 @@ impl<T: Drop, O: Drop> SessionState<T, O> {
             → self.old.packets ≤ length self.old.decisions.items }
         requires more { length self.old.decisions.items ≤ last }
         requires within { last ≤ self.old.accepted - 1 }
-        requires keys { KeepsKeys self.old }
+        requires last_key { KeepsLastKey self.old }
         requires in_order { AreInOrder self.old.decisions.items }
         ensures decided { OnOk result (Decided mode self.old self.new
             (D.told detector.old).questions (D.told detector.new).questions
@@ -53,7 +53,7 @@ impl<T: Drop, O: Drop> SessionState<T, O> {
         requires next { position ≡ length self.old.decisions.items + 1 }
         requires late { self.old.packets < position }
         requires within { position < self.old.accepted }
-        requires keys { KeepsKeys self.old }
+        requires last_key { KeepsLastKey self.old }
         requires in_order { AreInOrder self.old.decisions.items }
         ensures decided { OnOk result (Decided mode self.old self.new
             (D.told detector.old).questions (D.told detector.new).questions
@@ -68,7 +68,8 @@ impl<T: Drop, O: Drop> SessionState<T, O> {
             key,
         })?;
         if key {
-            self.keys.push(position)?;
+            self.schedule.note_key(position)?;
+            self.last_key = position;
         }
         Ok(())
     }
@@ -86,7 +87,7 @@ impl<T: Drop, O: Drop> SessionState<T, O> {
         requires next { position ≡ length self.now.decisions.items + 1 }
         requires late { self.now.packets < position }
         requires within { position < self.now.accepted }
-        requires keys { KeepsKeys self.now }
+        requires last_key { KeepsLastKey self.now }
         requires in_order { AreInOrder self.now.decisions.items }
         ensures key { IfOk result (λ key. IsTrue forced → IsTrue key) }
         ensures asked { IfOk result (λ key.
@@ -101,7 +102,7 @@ impl<T: Drop, O: Drop> SessionState<T, O> {
             return Ok(true);
         }
         let frames = self.frames_from(alloc, position)?;
-        detector.ask(alloc, mode, &frames, position, self.last_key())
+        detector.ask(alloc, mode, &frames, position, self.last_key)
     }
 
     // The frames from the one before a position on.
@@ -117,16 +118,5 @@ impl<T: Drop, O: Drop> SessionState<T, O> {
             frames.push(Arc::try_clone(&self.waiting[index].picture)?)?;
         }
         Ok(frames)
-    }
-
-    // The greatest key decided so far; 0, the first frame, where there is none.
-    fn last_key(&self) -> u64
-        requires some { 0 < self.now.accepted }
-        requires keys { KeepsKeys self.now }
-        requires in_order { AreInOrder self.now.decisions.items }
-        ensures { result
-            ≡ last_key self.now.decisions.items (length self.now.decisions.items + 1) }
-    {
-        self.keys[self.keys.len() - 1]
     }
 }

@@ -3,8 +3,8 @@ ghost use Rattle.std.specs.Prelude.{◌≡◌, ◌≤◌, ◌<◌, ℕ, Err, IfO
 ghost use Rattle.session_core.specs.declared.fault.SessionFault.TheVariants.{Coder};
 ghost use Rattle.std.specs.List.{flat_map, slice_get};
 ghost use Rattle.session_core.specs.declared.call.Call.TheVariants.{Receive};
-ghost use Rattle.session_core.specs.Moments.{is_complete, plan_at};
-ghost use Rattle.session_core.specs.States.{moment_of, IsReady, KeepsKeys};
+ghost use Rattle.session_core.specs.Moments.{is_complete};
+ghost use Rattle.session_core.specs.States.{moment_of, IsKept, IsReady};
 ghost use Rattle.session_core.specs.Steps.{FailsReceiving, WhereRefused};
 ghost use Rattle.session_core.specs.Taken.{IsTaken, handed_at, packet_of};
 ghost use Rattle.session_core.specs.Told.{Counts, IsCoderLater};
@@ -14,8 +14,6 @@ use crate::coding::status;
 use crate::state::SessionState;
 use crate::{FrameCoder, LogList, SessionFault, Turn};
 use av1_settings::{EncoderConfig, EncoderStatus};
-use coding_base::OutOfMemory;
-use pyramid::{Command, InterConfig, plan};
 use std::alloc::Global;
 
 impl<T: Drop, O: Drop> SessionState<T, O> {
@@ -27,13 +25,13 @@ impl<T: Drop, O: Drop> SessionState<T, O> {
         coder: &mut C,
     ) -> Result<Turn<T, O>, SessionFault>
         requires ready { IsReady enc.now (moment_of self.old) }
-        requires keys { KeepsKeys self.old }
+        requires kept { IsKept enc.now self.old }
         ensures turn { IfOk result (λ turn.
             IsTurn enc.now self.new.decisions.items (moment_of self.old) Receive turn) }
         ensures after { IfOk result (λ turn.
             moment_of self.new ≡ after_receive (moment_of self.old) turn.log turn.reply) }
         ensures same { OnOk result (self.new.decisions.items ≡ self.old.decisions.items) }
-        ensures keys { OnOk result (KeepsKeys self.new) }
+        ensures kept { OnOk result (IsKept enc.now self.new) }
         ensures refused { IfOk result (λ turn.
             WhereRefused turn.reply ((self.new ≡ self.old) × (coder.new ≡ coder.old))) }
         ensures taken { IfOk result (λ turn.
@@ -51,12 +49,15 @@ impl<T: Drop, O: Drop> SessionState<T, O> {
         if let Some(reason) = self.held_back(enc) {
             return Ok(status(alloc, reason));
         }
-        let command = self.next_command(alloc, enc)?;
+        let Some(command) = self.schedule.next_command() else {
+            unreachable!()
+        };
         let mut coded = match self.code(alloc, coder, command) {
             Ok(coded) => coded,
             Err(fault) => return Err(fault),
         };
         let reply = self.answer(alloc, &mut coded)?;
+        self.schedule.advance();
         let mut log = LogList::new(alloc);
         log.push(coded.entry)?;
         Ok(Turn { reply, log })
@@ -64,8 +65,7 @@ impl<T: Drop, O: Drop> SessionState<T, O> {
 
     // Why a receive codes nothing.
     fn held_back(&self, enc: &EncoderConfig) -> Option<EncoderStatus>
-        requires few { self.now.accepted ≤ frame_limit }
-        requires keys { KeepsKeys self.now }
+        requires kept { IsKept enc.now self.now }
         ensures { result ≡ held_back enc.now (moment_of self.now) }
     {
         if self.flushed && self.is_complete() {
@@ -86,38 +86,12 @@ impl<T: Drop, O: Drop> SessionState<T, O> {
 
     /// Whether the lookahead wants more frames than are known.
     pub(crate) fn needs_more_data(&self, enc: &EncoderConfig) -> bool
-        requires few { self.now.accepted ≤ frame_limit }
-        requires keys { KeepsKeys self.now }
+        requires kept { IsKept enc.now self.now }
         ensures { result ≡ needs_more_data enc.now (moment_of self.now) }
     {
         if self.flushed {
             return false;
         }
-        let known = InterConfig::new(enc).coded_ahead(
-            enc.key_frame_interval(),
-            self.accepted,
-            &self.keys,
-            self.commands,
-        );
-        known <= enc.speed_settings.rdo_lookahead_frames as u64
-    }
-
-    // The next command of the plan, by what was accepted and decided so far.
-    fn next_command(&self, alloc: Global, enc: &EncoderConfig) -> Result<Command, OutOfMemory>
-        requires few { self.now.accepted ≤ frame_limit }
-        requires keys { KeepsKeys self.now }
-        requires there { self.now.commands < length (plan_at enc.now (moment_of self.now)) }
-        ensures fits { OnOk result (self.now.commands < u64.MAX) }
-        ensures command { IfOk result (λ command.
-            slice_get (plan_at enc.now (moment_of self.now)) self.now.commands ≡ Some command) }
-    {
-        let commands = plan(
-            alloc,
-            &InterConfig::new(enc),
-            enc.key_frame_interval(),
-            self.accepted,
-            &self.keys,
-        )?;
-        Ok(commands[self.commands as usize])
+        self.schedule.coded_ahead() <= enc.speed_settings.rdo_lookahead_frames as u64
     }
 }

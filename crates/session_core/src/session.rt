@@ -153,7 +153,7 @@ pub fn run_session<T: Pixel, O: Drop, D: Detector<T>, C: FrameCoder<T>>(
     if cfg.enc.bitrate > 0 {
         return Err(SessionError::Unbuilt);
     }
-    let mut state = SessionState::new(alloc);
+    let mut state = SessionState::new(alloc, &cfg.enc);
     let mut turns = Vec::new(alloc);
     for call in calls {
         match state.turn(alloc, &cfg.enc, detector, coder, call) {

@@ -5,7 +5,7 @@ ghost use Rattle.session_core.specs.declared.fault.SessionFault.TheVariants.{Cod
 ghost use Rattle.session_core.specs.declared.transcript.Reply.TheVariants.{Flushed};
 ghost use Rattle.session_core.specs.Moments.{opening};
 ghost use Rattle.session_core.specs.Questions.{IsAskedIn};
-ghost use Rattle.session_core.specs.States.{moment_of, IsReady, KeepsKeys};
+ghost use Rattle.session_core.specs.States.{moment_of, IsKept, IsReady};
 ghost use Rattle.session_core.specs.Steps.{Fails, IsStep, Unused, WhereRefused};
 ghost use Rattle.session_core.specs.Told.{heard, IsDetectorLater, IsLater};
 ghost use Rattle.session_core.specs.Turns.{Decides, accepted_of, after_flush, after_send, has_enough, sent_reply};
@@ -17,7 +17,7 @@ use crate::{
 use av1_frame::Frame;
 use av1_settings::{EncoderConfig, EncoderStatus};
 use coding_base::OutOfMemory;
-use pyramid::InterConfig;
+use pyramid::{InterConfig, Schedule};
 use std::alloc::Global;
 use std::collections::VecDeque;
 use std::sync::Arc;
@@ -38,8 +38,10 @@ pub(crate) struct SessionState<T, O> {
     pub(crate) packets: u64,
     /// The decisions made so far, by rising position.
     pub(crate) decisions: Vec<Decision>,
-    /// The keys among the accepted frames, as far as they are decided.
-    pub(crate) keys: Vec<u64>,
+    /// The greatest position that is decided to be a key; 0, the first frame, where there is none.
+    pub(crate) last_key: u64,
+    /// The known places from that of the next command on.
+    pub(crate) schedule: Schedule,
     /// The frames whose packets aren't given, in order.
     pub(crate) waiting: VecDeque<WaitingFrame<T, O>>,
     /// The bytes coded since the last packet.
@@ -47,17 +49,19 @@ pub(crate) struct SessionState<T, O> {
 }
 
 impl<T, O> SessionState<T, O> {
-    pub(crate) fn new(alloc: Global) -> SessionState<T, O>
+    pub(crate) fn new(alloc: Global, enc: &EncoderConfig) -> SessionState<T, O>
         ensures moment { moment_of result ≡ opening }
-        ensures keys { KeepsKeys result }
+        ensures kept { IsKept enc.now result }
     {
+        let schedule = Schedule::new(alloc, InterConfig::new(enc), enc.key_frame_interval());
         SessionState {
             accepted: 0,
             flushed: false,
             commands: 0,
             packets: 0,
             decisions: Vec::new(alloc),
-            keys: Vec::new(alloc),
+            last_key: 0,
+            schedule,
             waiting: VecDeque::new(alloc),
             pending: Vec::new(alloc),
         }
@@ -75,7 +79,7 @@ impl<T: Drop, O: Drop> SessionState<T, O> {
         call: Call<T, O>,
     ) -> Result<Turn<T, O>, SessionFault>
         requires ready { IsReady enc.now (moment_of self.old) }
-        requires keys { KeepsKeys self.old }
+        requires kept { IsKept enc.now self.old }
         ensures step { IfOk result (λ turn.
             IsStep enc.now call turn (moment_of self.old) (moment_of self.new)
             (heard (C.told coder.old) (D.told detector.old))
@@ -84,7 +88,7 @@ impl<T: Drop, O: Drop> SessionState<T, O> {
             WhereRefused turn.reply ((self.new ≡ self.old)
             × (detector.new ≡ detector.old) × (coder.new ≡ coder.old))) }
         ensures unused { Unused call (detector.new ≡ detector.old) (coder.new ≡ coder.old) }
-        ensures keys { OnOk result (KeepsKeys self.new) }
+        ensures kept { OnOk result (IsKept enc.now self.new) }
         ensures stays { (number : ℕ) → result ≡ Err (Coder number) → self.new ≡ self.old }
         ensures failed { IfErr result (λ fault.
             Fails enc.now call (moment_of self.old)
@@ -118,7 +122,7 @@ impl<T: Drop, O: Drop> SessionState<T, O> {
         parameters: Option<FrameParameters<O>>,
     ) -> Result<Reply<T, O>, OutOfMemory>
         requires ready { IsReady enc.now (moment_of self.old) }
-        requires keys { KeepsKeys self.old }
+        requires kept { IsKept enc.now self.old }
         ensures reply { IfOk result
             (λ reply. reply ≡ sent_reply enc.now (moment_of self.old) frame.value) }
         ensures after { IfOk result (λ reply.
@@ -126,7 +130,7 @@ impl<T: Drop, O: Drop> SessionState<T, O> {
             ≡ after_send enc.now self.new.decisions.items (moment_of self.old)
             (accepted_of frame.value parameters) reply) }
         ensures decides { OnOk result (Decides enc.now (moment_of self.old) (moment_of self.new)) }
-        ensures keys { OnOk result (KeepsKeys self.new) }
+        ensures kept { OnOk result (IsKept enc.now self.new) }
         ensures asked { OnOk result (IsAskedIn enc.now (moment_of self.old)
             (moment_of self.new) (D.told detector.old).questions
             (D.told detector.new).questions (D.told detector.old).answers) }
@@ -144,7 +148,7 @@ impl<T: Drop, O: Drop> SessionState<T, O> {
         self.waiting
             .push_back(WaitingFrame::new(alloc, frame, parameters)?)?;
         if number == 0 {
-            self.keys.push(0)?;
+            self.schedule.note_key(0)?;
         }
         self.accepted = number + 1;
         let last = self
@@ -156,6 +160,7 @@ impl<T: Drop, O: Drop> SessionState<T, O> {
             detector,
             last,
         )?;
+        self.schedule.extend(self.accepted)?;
         Ok(Reply::Sent(number))
     }
 
@@ -174,13 +179,13 @@ impl<T: Drop, O: Drop> SessionState<T, O> {
         detector: &mut D,
     ) -> Result<Reply<T, O>, OutOfMemory>
         requires ready { IsReady enc.now (moment_of self.old) }
-        requires keys { KeepsKeys self.old }
+        requires kept { IsKept enc.now self.old }
         ensures reply { IfOk result (λ reply. reply ≡ Flushed) }
         ensures after { OnOk result (
             moment_of self.new
             ≡ after_flush enc.now self.new.decisions.items (moment_of self.old)) }
         ensures decides { OnOk result (Decides enc.now (moment_of self.old) (moment_of self.new)) }
-        ensures keys { OnOk result (KeepsKeys self.new) }
+        ensures kept { OnOk result (IsKept enc.now self.new) }
         ensures asked { OnOk result (IsAskedIn enc.now (moment_of self.old)
             (moment_of self.new) (D.told detector.old).questions
             (D.told detector.new).questions (D.told detector.old).answers) }
@@ -199,6 +204,7 @@ impl<T: Drop, O: Drop> SessionState<T, O> {
             detector,
             last,
         )?;
+        self.schedule.close(self.accepted)?;
         Ok(Reply::Flushed)
     }
 }

@@ -376,3 +376,31 @@ fn texts_of_faults_and_refusals(rt: HostRuntime) -> Result<(), Fail> {
     );
     Ok(())
 }
+
+#[test]
+fn frames_are_held_until_their_packets_are_given(rt: HostRuntime) -> Result<(), Fail> {
+    let alloc = rt.alloc();
+    let mut enc = settings(100, 1);
+    enc.low_latency = true;
+    let cfg = Config::new().with_encoder_config(enc);
+    let mut session: ContextInner<u16, u64, NoDetector, SizedCoder> = ContextInner::new(
+        alloc,
+        &cfg,
+        &no_levels(),
+        NoDetector,
+        SizedCoder::new(99),
+    )?;
+    for _ in 0..5 {
+        let sent = session.send_frame(alloc, Some(picture(alloc)?), None);
+        assert_eq!(rt; sent, Ok(()));
+    }
+    assert_eq!(rt; session.frames_held(), 5);
+    assert_eq!(rt; session.places_held(), 2);
+    let received = session
+        .receive_packet(alloc)
+        .map(|packet| packet.input_frameno);
+    assert_eq!(rt; received, Ok(0));
+    assert_eq!(rt; session.frames_held(), 4);
+    assert_eq!(rt; session.places_held(), 1);
+    Ok(())
+}

@@ -16,7 +16,7 @@ pub loop-call-init : goal.loop-call-init
 loop-call-init g c = (
   tt,
   tt,
-  carried-opening c.args.cfg.now.enc c.new-turns.result.items c.new-state.result (outside g c.args.coder.now c.args.detector.now) c.new-turns.ensures.items c.new-state.ensures.moment c.new-state.ensures.keys,
+  carried-opening c.args.cfg.now.enc c.new-turns.result.items c.new-state.result (outside g c.args.coder.now c.args.detector.now) c.new-turns.ensures.items c.new-state.ensures.moment c.new-state.ensures.kept,
   c.into_iter-call-iterator.ensures.into_iter_gives.0,
 )
 
@@ -31,7 +31,7 @@ loop-call-preserved g c =
       tt,
       tt,
       carried-step c.args.cfg.now.enc c.loop-call.yielded c.loop-call.turns.items c.push.new.self.items c.loop-call.state c.turn.new.self _ _ (outside g c.turn.new.coder c.turn.new.detector) c.in-Some.call c.in-Ok.turn
-          c.in_default.ensures.valid.looks_ahead c.loop-call.invariant.2 c.in-Ok.ensures.step c.in-Ok.ensures.keys c.in-Ok.ensures.later
+          c.in_default.ensures.valid.looks_ahead c.loop-call.invariant.2 c.in-Ok.ensures.step c.in-Ok.ensures.kept c.in-Ok.ensures.later
           c.in_ok-push-in-Ok.ensures.items,
       left,
     )
@@ -44,7 +44,7 @@ pub returns-in_err-push-in-Ok-clause-later : goal.returns-in_err-push-in-Ok-clau
 returns-in_err-push-in-Ok-clause-later g c = later-then _ _ _ c.loop-call.invariant.2.later c.in-Ok.ensures.later
 
 -- what an error says of the calls
-stop : (g : given.Over) (c : goal.After-drop-state-in-Err-turn-4 g) →
+stop : (g : given.Over) (c : goal.After-drop-state-in-Err-turn-5 g) →
     Stops c.args.cfg.now.enc c.args.calls.items (outside g c.args.coder.now c.args.detector.now) (outside g c.turn.new.coder c.turn.new.detector) c.from.result
 stop g c =
     let at : c.loop-call.yielded ++ c.in-Some.call ∷ c.next.new.self.rest.items ≡ c.args.calls.items =
@@ -78,13 +78,13 @@ pub returns-in-Err-turn-clause-later : goal.returns-in-Err-turn-clause-later
 returns-in-Err-turn-clause-later g c = later-then _ _ _ c.loop-call.invariant.2.later c.in-Err-turn.ensures.later
 
 -- every call was answered
-all_done : (g : given.Over) (c : goal.After-drop-state-4 g) → c.loop-call.yielded ≡ c.args.calls.items
+all_done : (g : given.Over) (c : goal.After-drop-state-5 g) → c.loop-call.yielded ≡ c.args.calls.items
 all_done g c =
     let none : c.loop-call.call-iterator.rest.items ≡ [] = nil_from_length _ (omega (arith, c.in-None.ensures.steps.0)) in
     sym (append-nil c.loop-call.yielded) ∙ ap (λ rest. c.loop-call.yielded ++ rest) (sym none) ∙ c.loop-call.invariant.3
 
 -- what the loop kept, of all calls and the transcript's turns
-kept : (g : given.Over) (c : goal.After-drop-state-4 g) →
+kept : (g : given.Over) (c : goal.After-drop-state-5 g) →
     Carried c.args.cfg.now.enc c.args.calls.items c.from_vec.result c.loop-call.state
     (outside g c.args.coder.now c.args.detector.now) (outside g c.loop-call.coder c.loop-call.detector)
 kept g c =
@@ -96,7 +96,7 @@ kept g c =
     let all = subst (λ done. Carried enc done c.loop-call.turns.items state before now) (all_done g c) c.loop-call.invariant.2 in
     subst (λ turns. Carried enc calls turns state before now) (sym c.from_vec.ensures) all
 
-run : (g : given.Over) (c : goal.After-drop-state-4 g) →
+run : (g : given.Over) (c : goal.After-drop-state-5 g) →
     IsSessionRun c.args.cfg.now.enc c.args.calls.items (record { turns = c.from_vec.result; decisions = c.from_vec-2.result })
     (outside g c.args.coder.now c.args.detector.now) (outside g c.loop-call.coder c.loop-call.detector)
 run g c =

@@ -1,7 +1,8 @@
-use Rattle.std.proofs.Common.{◌≡◌, true, None, Some, Ok, Err, ap, sym, ◌∙◌, subst}
+use Rattle.std.proofs.Common.{◌≡◌, true, None, Some, Ok, Err, refl, ap, sym, ◌∙◌, subst}
+use Rattle.av1_settings.specs.declared.status.EncoderStatus.TheVariants.{Failure}
 use Rattle.session_core.specs.Contexts.{Session, GivesReply, IsCall}
 use Rattle.session_core.specs.Told.{heard}
-use Rattle.session_core.proofs.Calling.{call-of-fault, call-of-turn, held-ready, held-step, none-of, session-same, session_of}
+use Rattle.session_core.proofs.Calling.{call-of-failed, call-of-fault, call-of-turn, held-failed, held-ready, held-step, none-of, session-same, session_of}
 use Rattle.session_core.proofs.context_inner.ContextInner.call.Given as given
 use Rattle.session_core.proofs.context_inner.ContextInner.call.Goals as goal
 
@@ -10,7 +11,7 @@ turn-turn-requires-clause-ready g c = held-ready _ _ _ c.self.invariant (none-of
 
 pub invariant_of-self : goal.invariant_of-self
 invariant_of-self g c =
-    held-step _ _ _ _ _ c.args.call c.in-Ok.turn _ _ c.self.invariant (none-of _ (sym c.if-is_some.ensures)) c.in-Ok.ensures.step c.in-Ok.ensures.keys
+    held-step _ _ _ _ _ c.args.call c.in-Ok.turn _ _ c.self.invariant (none-of _ (sym c.if-is_some.ensures)) c.in-Ok.ensures.step c.in-Ok.ensures.kept
 
 pub returns-in-Ok : goal.returns-in-Ok
 returns-in-Ok g c =
@@ -49,3 +50,18 @@ returns-in-Err-clause-call g c =
     (call-of-fault inside.enc inside.state c.turn-turn.new.self inside.failure inside.detector c.turn-turn.new.detector inside.coder c.turn-turn.new.coder
     c.args.call c.in-Err.fault c.status.result _ _ (none-of _ (sym c.if-is_some.ensures)) c.status.ensures c.in-Err.ensures.failed
     (λ number at. c.turn-turn.ensures.stays number (c.in-Err.is ∙ ap Err at)) c.turn-turn.ensures.unused c.turn-turn.ensures.later)
+
+pub returns-then-is_some-clause-call : goal.returns-then-is_some-clause-call
+returns-then-is_some-clause-call g c =
+    let inside = c.self.inside in
+    let before : Session g.row.T.Denot g.row.O.Denot g.row.D.Denot g.row.C.Denot =
+    session_of inside.enc inside.state inside.failure inside.detector inside.coder in
+    let Calls : Session g.row.T.Denot g.row.O.Denot g.row.D.Denot g.row.C.Denot → Type 0 = λ now.
+    IsCall GivesReply c.args.call now now
+    (heard (g.C.FrameCoder.told now.coder) (g.D.Detector.told now.detector))
+    (heard (g.C.FrameCoder.told now.coder) (g.D.Detector.told now.detector)) (Err Failure) in
+    subst Calls c.self.view_is (call-of-failed c.args.call before _ _ (sym c.if-is_some.ensures))
+
+pub invariant_of-self-in-Err : goal.invariant_of-self-in-Err
+invariant_of-self-in-Err g c =
+    held-failed c.self.inside.enc c.self.inside.state c.turn-turn.new.self c.self.inside.failure (Some c.in-Err.fault) c.in-Err.fault c.self.invariant refl

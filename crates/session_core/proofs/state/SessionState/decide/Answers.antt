@@ -1,6 +1,10 @@
-use Rattle.session_core.proofs.Deciding.{decided-next, decided-order}
-use Rattle.session_core.proofs.Telling.{detector-then}
+use Rattle.std.proofs.Common.{arith}
+use Rattle.session_core.proofs.Deciding.{decided-next, decided-none, decided-order}
+use Rattle.session_core.proofs.Telling.{detector-same, detector-then}
 use Rattle.session_core.proofs.state.SessionState.decide.Goals as goal
+
+pub loop-position-init : goal.loop-position-init
+loop-position-init g c = (decided-none c.args.mode c.args.self.now _ _ c.requires.last_key, omega arith, detector-same _)
 
 pub decide_at-requires-clause-in_order : goal.decide_at-requires-clause-in_order
 decide_at-requires-clause-in_order g c = decided-order c.args.mode c.args.self.now c.loop-position.self _ _ _ _ c.loop-position.invariant.0 c.requires.in_order

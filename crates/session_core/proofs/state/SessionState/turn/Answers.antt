@@ -92,3 +92,6 @@ returns-clause-unused g c = elim c.match-call.branch [
   | in-Send+in_ok-reply-in-Send w ↦ rw w.in-Send.is refl
   | in-Flush+in_ok-reply-in-Flush w ↦ rw w.in-Flush.is refl
 ]
+
+pub returns-in_err-reply-in-Flush-clause-later : goal.returns-in_err-reply-in-Flush-clause-later
+returns-in_err-reply-in-Flush-clause-later g c = record { coder = coder-same _; detector = c.flush.ensures.later }
