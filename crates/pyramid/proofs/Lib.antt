@@ -12,7 +12,6 @@ pub mod GroupCount
 pub mod Prefixes
 pub mod GopSteps
 pub mod PlanSteps
-pub mod KnownSteps
 pub mod Replay
 pub mod PlanLaws
 pub mod Coded

@@ -77,3 +77,15 @@ plan_from-step numbers interval frames keys start next built grown some h e g =
 pub start_after_is : (interval frames start next first left : ℕ) (keys : List ℕ) → next ≡ min first (min (start + interval) frames) → first ≡ left → left ≡ key_above frames keys start → next ≡ start_after interval frames keys start
 start_after_is interval frames start next first left keys e f g =
     e ∙ ap (λ (k : ℕ). min k (min (start + interval) frames)) (f ∙ g)
+
+-- the starts from one on that are below `frames`
+abbrev pub starts_left : ℕ → ℕ → List ℕ → ℕ → List ℕ
+starts_left interval frames keys start = starts_from interval frames keys (frames - start) start
+
+pub starts_left-more : (interval frames : ℕ) (keys : List ℕ) (start : ℕ) → 1 ≤ interval → start < frames → starts_left interval frames keys start ≡ start ∷ starts_left interval frames keys (start_after interval frames keys start)
+starts_left-more interval frames keys start some h =
+    let next = start_after interval frames keys start in
+    let later = start_after-later interval frames keys start some h in
+    let more : frames - start ≡ suc (frames - start - 1) = omega arith in
+    let same = starts_from-enough interval frames keys some (frames - start - 1) (frames - next) next (omega arith) (omega arith) in
+    ap (λ (count : ℕ). starts_from interval frames keys count start) more ∙ starts_from-one interval frames keys (frames - start - 1) start h ∙ ap (λ s. start ∷ s) same

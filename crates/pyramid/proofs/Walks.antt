@@ -16,11 +16,10 @@ use Rattle.pyramid.specs.Positions.{row_position}
 use Rattle.pyramid.specs.Rows.{rows, HasTable, is_row}
 use Rattle.pyramid.proofs.Fronts.{take_while-yes, take_while-no}
 use Rattle.pyramid.proofs.GroupCount.{group_within}
-use Rattle.pyramid.proofs.KnownSteps.{starts_left, starts_left-more}
 use Rattle.pyramid.proofs.KnownUnits.{same-next, apart-next}
 use Rattle.pyramid.proofs.Lists.{all_weaker}
 use Rattle.pyramid.proofs.PlacedUnits.{whole-rows}
-use Rattle.pyramid.proofs.PlanSteps.{starts_from-done}
+use Rattle.pyramid.proofs.PlanSteps.{starts_from-done, starts_left, starts_left-more}
 use Rattle.pyramid.proofs.Tables.{fits, table}
 
 -- ---- keys

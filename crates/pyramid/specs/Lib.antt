@@ -1,10 +1,9 @@
 -- The words of a plan, in the order in which they are best read: Numbers, Levels, Rows, Positions, RowCommand, Gop, Plan;
--- Known, which Counted counts; Places, which Building builds for Schedules; Display, Playable and NamedPositions; the laws
+-- Known; Places, which Building builds for Schedules; Display, Playable and NamedPositions; the laws
 -- over both in Laws, with MidGop and Moved. Settings gives the numbers.
 pub mod AreSlots
 pub mod Begins
 pub mod Building
-pub mod Counted
 pub mod Display
 pub mod Gop
 pub mod Known

@@ -5,7 +5,6 @@
 
 mod command;
 mod inter_config;
-mod known;
 pub mod laws;
 mod named;
 mod place;

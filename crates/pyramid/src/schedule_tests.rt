@@ -157,6 +157,64 @@ fn places_become_known(rt: HostRuntime) -> Result<(), Fail> {
     Ok(())
 }
 
+// How many coded frames are known of so many accepted ones, behind the first `done` commands, with keys at 0 and at `key`.
+fn coded_behind(
+    alloc: Global,
+    cfg: InterConfig,
+    interval: u64,
+    key: u64,
+    frames: u64,
+    done: u64,
+) -> Result<u64, OutOfMemory>
+    requires interval { 1 ≤ interval }
+    requires frames { frames ≤ 100 }
+{
+    let mut schedule = Schedule::new(alloc, cfg, interval);
+    schedule.note_key(key)?;
+    schedule.extend(frames)?;
+    for _ in 0..done {
+        schedule.advance();
+    }
+    Ok(schedule.coded_ahead())
+}
+
+// A group is known 6 frames behind its last position: four frames, then two shows.
+#[test]
+fn coded_frames_become_known(rt: HostRuntime) -> Result<(), Fail> {
+    for (interval, key, frames, done, wanted) in [
+        (100, 0, 0, 0, 0),
+        (100, 0, 6, 0, 0),
+        (100, 0, 7, 0, 1),
+        (100, 0, 10, 0, 1),
+        (100, 0, 11, 0, 5),
+        (100, 0, 14, 0, 5),
+        (100, 0, 15, 0, 9),
+        (100, 0, 15, 1, 8),
+        (100, 0, 15, 4, 5),
+        (100, 0, 15, 5, 5),
+        (100, 0, 15, 12, 0),
+        (100, 0, 15, 20, 0),
+        // an interval of 5: the key at 5 needs more than 14 frames, and the group behind it more than 15
+        (5, 0, 10, 0, 1),
+        (5, 0, 14, 0, 5),
+        (5, 0, 15, 0, 6),
+        (5, 0, 16, 0, 10),
+        // a key at 2: its group is cut to one frame, and known no sooner
+        (100, 2, 10, 0, 1),
+        (100, 2, 11, 0, 2),
+        (100, 2, 15, 0, 7),
+    ] {
+        let coded = coded_behind(rt.alloc(), REORDERING, interval, key, frames, done)?;
+        assert_eq!(rt; coded, wanted);
+    }
+    // without reordering
+    for (frames, wanted) in [(4, 1), (8, 5), (9, 6)] {
+        let coded = coded_behind(rt.alloc(), IN_ORDER, 5, 0, frames, 0)?;
+        assert_eq!(rt; coded, wanted);
+    }
+    Ok(())
+}
+
 #[test]
 fn rows_of_the_place_table(rt: HostRuntime) {
     let row = REORDERING.place(11);
