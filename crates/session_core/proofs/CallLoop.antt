@@ -8,7 +8,6 @@ use Rattle.coding_base.proofs.FaultLemmas.{rose-after}
 use Rattle.coding_base.proofs.RunLemmas.{runs-length, runs-push, after-push}
 use Rattle.av1_settings.specs.declared.encoder.EncoderConfig.{EncoderConfig}
 use Rattle.av1_settings.specs.declared.invalid.InvalidConfig.{InvalidConfig}
-use Rattle.pyramid.specs.declared.command.Command.{Command}
 use Rattle.pyramid.specs.Display.{empty_slots}
 use Rattle.session_core.specs.declared.call.Call.{Call}
 use Rattle.session_core.specs.declared.call.Call.TheVariants.{Send, Flush, Receive}
@@ -31,7 +30,7 @@ use Rattle.session_core.specs.Questions.{AreAnswered, IsAsked, questions, questi
 use Rattle.session_core.specs.Sessions.{AreTurns, AreKeyDecisions, Headline, IsSessionRun, KeepsSchedule, moment_after, accepted_in, commands_of, entries_of, handed_entries, packets_of}
 use Rattle.session_core.specs.States.{moment_of, IsKept, IsReady}
 use Rattle.session_core.specs.Steps.{AreSteps, Fails, IsStep}
-use Rattle.session_core.specs.Taken.{IsTaken, handed_at, packet_of}
+use Rattle.session_core.specs.Taken.{IsTaken, handed_at}
 use Rattle.session_core.specs.Told.{Counts, DetectorTold, FailsBehind, Grew, Handed, Heard, IsLater}
 use Rattle.session_core.specs.Turns.{BeginTrials, IsTurn, after_receive, after_turn}
 use Rattle.session_core.proofs.RunHistory.{entries-push, packets-push}

@@ -1,5 +1,5 @@
 -- Calls of a context: what one keeps, and what it answers.
-use Rattle.std.proofs.Common.{◌≡◌, ◌≢◌, ℕ, ◌-◌, ◌≤◌, length, ◌⊎◌, inl, inr, List, [], ◌∷◌, ◌++◌, Bool, true, false, MatchOption, MatchBool, IfOk, IfErr, Option, Some, None, is_some, Result, Ok, Err, refl, sym, ap, subst, arith}
+use Rattle.std.proofs.Common.{◌≡◌, ℕ, ◌-◌, length, ◌⊎◌, inl, inr, List, [], ◌∷◌, ◌++◌, Bool, true, false, MatchOption, MatchBool, IfOk, IfErr, Option, Some, None, is_some, Result, Ok, Err, refl, sym, ap, subst, arith}
 use Rattle.std.proofs.lemmas.List.{length-map}
 use Rattle.av1_frame.specs.declared.frame.Frame.{Frame}
 use Rattle.av1_settings.specs.declared.encoder.EncoderConfig.{EncoderConfig}
@@ -20,7 +20,7 @@ use Rattle.session_core.specs.declared.transcript.Reply.{Reply}
 use Rattle.session_core.specs.declared.transcript.Reply.TheVariants.{Sent, Flushed, Packet as GivesPacket, Status}
 use Rattle.session_core.specs.declared.transcript.Turn.{Turn}
 use Rattle.session_core.specs.Contexts.{Session, GivesDone, GivesReply, IsAnswered, IsCall, IsFailed, IsReceiveReply, IsSend, Asks, RunsOut, status_of}
-use Rattle.session_core.specs.Held.{IsHeld, IsReached, Leads}
+use Rattle.session_core.specs.Held.{IsHeld}
 use Rattle.session_core.specs.Moments.{Moment, opening}
 use Rattle.session_core.specs.States.{moment_of, waiting_of, IsKept, IsReady}
 use Rattle.session_core.specs.Steps.{Fails, IsStep, Unused, WhereRefused}

@@ -1,5 +1,5 @@
 -- The schedule that a session keeps: what its calls do to it, and what a receive reads from it.
-use Rattle.std.proofs.Common.{◌≡◌, ℕ, zero, suc, ◌+◌, ◌-◌, ◌≤◌, ◌<◌, ◌^◌, ◌/◌, Bool, true, false, not, ◌&&◌, cond, eqb, leb, ltb, drop, List, [], ◌∷◌, ◌++◌, map, filter, length, Option, Some, None, refl, sym, ap, ◌∙◌, subst, append-nil, append_assoc, arith}
+use Rattle.std.proofs.Common.{◌≡◌, ℕ, zero, suc, ◌+◌, ◌-◌, ◌≤◌, ◌<◌, ◌^◌, ◌/◌, Bool, true, false, not, ◌&&◌, cond, eqb, leb, ltb, drop, List, [], ◌∷◌, ◌++◌, length, Option, Some, None, refl, sym, ap, ◌∙◌, subst, append-nil, append_assoc, arith}
 use Rattle.std.specs.List.{slice_get, count_by}
 use Rattle.std.proofs.lemmas.Bool.{cond-false, ne_eqb}
 use Rattle.std.proofs.lemmas.Bool.Decides.{leb_tells}
@@ -11,8 +11,7 @@ use Rattle.av1_settings.specs.Settings.{interval_of}
 use Rattle.pyramid.specs.declared.command.Command.{Command}
 use Rattle.pyramid.specs.declared.schedule.Schedule.{Schedule}
 use Rattle.pyramid.specs.Known.{is_coding}
-use Rattle.pyramid.specs.Numbers.{Numbers, ahead}
-use Rattle.pyramid.specs.Places.{settled_commands}
+use Rattle.pyramid.specs.Numbers.{Numbers}
 use Rattle.pyramid.specs.Schedules.{IsSchedule}
 use Rattle.pyramid.specs.Settings.{numbers_of}
 use Rattle.session_core.specs.declared.state.SessionState.{SessionState}

@@ -1,5 +1,5 @@
 -- A call of a session as one step.
-use Rattle.std.proofs.Common.{◌≡◌, Bool, true, false, cond, [], length, IfOk, Result, Ok, Err, refl, sym, ap, ◌∙◌, subst}
+use Rattle.std.proofs.Common.{◌≡◌, Bool, true, false, cond, [], length, IfOk, Result, Ok, Err, refl}
 use Rattle.std.specs.List.{flat_map}
 use Rattle.av1_frame.specs.declared.frame.Frame.{Frame}
 use Rattle.av1_frame.specs.Planes.{fits}

@@ -1,6 +1,6 @@
 -- The state of a session as a moment, and what each step of it knows and leaves.
 use Rattle.std.specs.Prelude.{◌≡◌, ⊤, if◌then◌else◌, ℕ, ◌+◌, ◌≤◌, ◌<◌, Bool, false, List, [], ◌∷◌, ◌++◌, map, length, IsSome, Option, Some, None}
-use Rattle.std.specs.Option.{option_map, option_and_then, option_to_list}
+use Rattle.std.specs.Option.{option_map, option_and_then}
 use Rattle.std.specs.List.{flat_map, range_with_len, slice_get}
 use Rattle.coding_base.specs.Faults.{Rose}
 use Rattle.av1_settings.specs.declared.encoder.EncoderConfig.{EncoderConfig}
@@ -20,7 +20,7 @@ use Rattle.session_core.specs.declared.state.SessionState.{SessionState}
 use Rattle.session_core.specs.declared.transcript.Decision.{Decision}
 use Rattle.session_core.specs.declared.transcript.Reply.{Reply}
 use Rattle.session_core.specs.Decisions.{decided_count, key_positions, keys_of}
-use Rattle.session_core.specs.Moments.{Waiting, Moment, waiting_at, known_at, plan_at}
+use Rattle.session_core.specs.Moments.{Waiting, Moment, known_at, plan_at}
 use Rattle.session_core.specs.Questions.{AreAnswered, frames_from, last_key, question}
 use Rattle.session_core.specs.Taken.{handed_at, packet_of}
 use Rattle.session_core.specs.Told.{Asked, CoderTold, Gave, Told, FailsBehind, Grew}

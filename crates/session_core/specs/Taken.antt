@@ -1,7 +1,6 @@
 -- What a coder took: what it was handed, one for each entry of a log, and what it gave.
-use Rattle.std.specs.Prelude.{◌≡◌, ℕ, Bool, true, not, ◌&&◌, List, [], ◌∷◌, map, filter}
+use Rattle.std.specs.Prelude.{◌≡◌, Bool, true, not, ◌&&◌, List, [], ◌∷◌, map, filter}
 use Rattle.std.specs.Option.{option_map, option_to_list}
-use Rattle.av1_settings.specs.declared.encoder_stats.EncoderStats.{EncoderStats}
 use Rattle.pyramid.specs.declared.command.Command.{Command}
 use Rattle.pyramid.specs.declared.command.Command.TheVariants.{Code, Show}
 use Rattle.session_core.specs.declared.packet.Packet.{Packet}

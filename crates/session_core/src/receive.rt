@@ -92,6 +92,7 @@ impl<T: Drop, O: Drop> SessionState<T, O> {
         if self.flushed {
             return false;
         }
-        self.schedule.coded_ahead() <= enc.speed_settings.rdo_lookahead_frames as u64
+        let known = self.schedule.coded_ahead();
+        known <= enc.speed_settings.rdo_lookahead_frames as u64
     }
 }

@@ -1,7 +1,6 @@
 use Rattle.std.proofs.Common.{rules, ◌≡◌, ◌++◌, ◌∷◌, [], Result, Err, inr, ap, sym, subst, ◌∙◌, append_assoc, append-nil, arith}
 use Rattle.std.proofs.lemmas.Int.{ints}
 use Rattle.std.proofs.lemmas.List.{nil_from_length}
-use Rattle.session_core.specs.Answers.{error_of}
 use Rattle.session_core.specs.Sessions.{IsSessionRun}
 use Rattle.session_core.proofs.CallLoop.{Carried, Stops, carried-opening, carried-step, leads-ready, carried-session, carried-steps, session-schedule, carried-stop}
 use Rattle.session_core.proofs.Telling.{later-then}

@@ -1,4 +1,4 @@
-use Rattle.std.proofs.Common.{◌≡◌, Option, subst, subst₂}
+use Rattle.std.proofs.Common.{Option, subst, subst₂}
 use Rattle.av1_frame.specs.declared.frame.Frame.{Frame}
 use Rattle.session_core.specs.declared.call.FrameParameters.{FrameParameters}
 use Rattle.session_core.specs.Contexts.{Session, IsSend}

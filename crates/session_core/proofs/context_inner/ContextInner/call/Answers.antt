@@ -1,9 +1,8 @@
-use Rattle.std.proofs.Common.{◌≡◌, true, None, Some, Ok, Err, refl, ap, sym, ◌∙◌, subst}
+use Rattle.std.proofs.Common.{◌≡◌, true, Some, Ok, Err, refl, ap, sym, ◌∙◌, subst}
 use Rattle.av1_settings.specs.declared.status.EncoderStatus.TheVariants.{Failure}
 use Rattle.session_core.specs.Contexts.{Session, GivesReply, IsCall}
 use Rattle.session_core.specs.Told.{heard}
 use Rattle.session_core.proofs.Calling.{call-of-failed, call-of-fault, call-of-turn, held-failed, held-ready, held-step, none-of, session-same, session_of}
-use Rattle.session_core.proofs.context_inner.ContextInner.call.Given as given
 use Rattle.session_core.proofs.context_inner.ContextInner.call.Goals as goal
 
 pub turn-turn-requires-clause-ready : goal.turn-turn-requires-clause-ready

@@ -1,6 +1,6 @@
 use Rattle.session_core.specs.declared.call.Call.TheVariants.{Receive}
 use Rattle.session_core.specs.Contexts.{GivesReceived}
-use Rattle.session_core.proofs.Calling.{call-gives, received-reply}
+use Rattle.session_core.proofs.Calling.{call-gives}
 use Rattle.session_core.proofs.context_inner.ContextInner.receive_packet.Goals as goal
 
 pub returns : goal.returns

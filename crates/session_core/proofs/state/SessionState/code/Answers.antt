@@ -1,4 +1,4 @@
-use Rattle.std.proofs.Common.{rules, ◌≡◌, ◌∷◌, [], ◌-◌, ◌<◌, length, false, ap, sym, ◌∙◌, refl, arith}
+use Rattle.std.proofs.Common.{rules, ◌≡◌, ◌∷◌, [], ◌-◌, ◌<◌, length, false, ap, sym, arith}
 use Rattle.pyramid.specs.declared.command.Command.TheVariants.{Code}
 use Rattle.session_core.specs.declared.coder.CodeJob.{CodeJob}
 use Rattle.session_core.specs.declared.coded.Coded.{Coded}

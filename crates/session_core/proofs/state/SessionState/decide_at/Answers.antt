@@ -1,4 +1,4 @@
-use Rattle.std.proofs.Common.{◌≤◌, ◌<◌, ◌-◌, ℕ, List, Bool, cond, length, [], ◌∷◌, refl, sym, ap, subst, arith}
+use Rattle.std.proofs.Common.{◌≤◌, ◌<◌, ◌-◌, Bool, cond, length, [], ◌∷◌, refl, sym, ap, subst, arith}
 use Rattle.session_core.specs.States.{TakesKeys}
 use Rattle.session_core.proofs.Deciding.{decided-one}
 use Rattle.session_core.proofs.Scheduling.{takes-none}

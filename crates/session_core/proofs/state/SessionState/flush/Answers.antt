@@ -1,4 +1,4 @@
-use Rattle.std.proofs.Common.{◌≡◌, ℕ, Bool, true, false, refl, ap, ◌∙◌, subst, rules, arith}
+use Rattle.std.proofs.Common.{◌≡◌, Bool, true, false, refl, ap, ◌∙◌, subst, rules, arith}
 use Rattle.av1_settings.specs.Settings.{interval_of}
 use Rattle.pyramid.specs.Schedules.{IsSchedule}
 use Rattle.pyramid.specs.Settings.{numbers_of}

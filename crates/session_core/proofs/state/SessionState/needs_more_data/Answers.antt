@@ -4,5 +4,5 @@ use Rattle.session_core.proofs.state.SessionState.needs_more_data.Goals as goal
 
 pub returns : goal.returns
 returns g c =
-    wants-more c.args.enc.now (moment_of c.args.self.now) c.coded_ahead.result c.if-self.false
-    (c.coded_ahead.ensures _ _ _ _ _ _ (kept-schedule _ _ c.requires.kept))
+    wants-more c.args.enc.now (moment_of c.args.self.now) c.coded_ahead-known.result c.if-self.false
+    (c.coded_ahead-known.ensures _ _ _ _ _ _ (kept-schedule _ _ c.requires.kept))

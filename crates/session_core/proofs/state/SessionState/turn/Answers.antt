@@ -1,6 +1,6 @@
-use Rattle.std.proofs.Common.{◌≡◌, [], IfOk, refl, sym, ap, ◌∙◌, subst}
+use Rattle.std.proofs.Common.{IfOk, refl, sym, ap, ◌∙◌, subst}
 use Rattle.session_core.specs.declared.call.Call.{Call}
-use Rattle.session_core.specs.declared.call.Call.TheVariants.{Send, Flush, Receive}
+use Rattle.session_core.specs.declared.call.Call.TheVariants.{Send, Flush}
 use Rattle.session_core.specs.declared.state.SessionState.{SessionState}
 use Rattle.session_core.specs.declared.transcript.Reply.{Reply}
 use Rattle.session_core.specs.States.{moment_of}
@@ -10,7 +10,6 @@ use Rattle.session_core.specs.Told.{IsDetectorLater, heard}
 use Rattle.session_core.specs.Turns.{Decides, IsTurn}
 use Rattle.session_core.proofs.Telling.{coder-same, detector-same}
 use Rattle.session_core.proofs.Turning.{quiet-step, receive-step, sent-packet}
-use Rattle.session_core.proofs.state.SessionState.turn.Given as given
 use Rattle.session_core.proofs.state.SessionState.turn.Goals as goal
 use Rattle.session_core.proofs.state.SessionState.turn.Goals.{in-Send+in_ok-reply-in-Send, in-Flush+in_ok-reply-in-Flush}
 
