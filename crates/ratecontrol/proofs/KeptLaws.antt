@@ -216,6 +216,10 @@ kept_next rate es e begun log =
     ap (λ (r : Rate). update e r) (sym (after_all_is_kept rate es begun (log_before es e log)))
     ∙ (one_more rate es e ∙ after_all_is_kept rate (es ++ e ∷ []) begun log)
 
+pub ruleset kept_laws = (after_all_is_kept, uncontrolled, kept_of_none, kept_next, kept_bitrate, kept_reservoir)
+
+pub ruleset log_laws = (frame_entry, show_entry, log_next, log_before)
+
 -- ---- when a trial is due
 
 more_than_none : (z : ℤ) → pos 1 ≤ℤ z → int_eq z (pos 0) ≡ false

@@ -69,7 +69,7 @@ pub fn bias_is_a_sum()
 /// own frames, and the reservoir's ledger. Without a bitrate it is the start itself, whatever the entries are.
 ///
 /// So [`RCState::update_state`](crate::RCState::update_state) leads from what is kept of a log to what is kept of the longer one.
-#[tactic(auto, using(crate::proofs::KeptLaws::after_all_is_kept, crate::proofs::KeptLaws::uncontrolled, crate::proofs::KeptLaws::kept_next, crate::proofs::KeptLaws::kept_of_none, crate::proofs::KeptLaws::kept_bitrate, crate::proofs::KeptLaws::kept_reservoir))]
+#[tactic(auto, using(crate::proofs::KeptLaws::kept_laws))]
 pub fn a_session_keeps_its_log()
     ensures kept { (rate : Rate) (entries : List Entry)
         → IsSessionStart rate → IsSessionLog entries → after_all rate entries ≡ kept rate entries }
@@ -87,7 +87,7 @@ pub fn a_session_keeps_its_log()
 {}
 
 /// What a session's log grows by: coded frames with bits, and shows of coded frames.
-#[tactic(auto, using(crate::proofs::KeptLaws::frame_entry, crate::proofs::KeptLaws::show_entry, crate::proofs::KeptLaws::log_next, crate::proofs::KeptLaws::log_before))]
+#[tactic(auto, using(crate::proofs::KeptLaws::log_laws))]
 pub fn a_log_grows_by_frames_and_shows()
     ensures frame { (bits : ℤ) (subtype : ℕ) (shown : Bool) (log_target : ℤ) (trial : Bool)
         → subtype < 4 → pos 1 ≤ℤ bits → bits ≤ℤ pos (8 * 2 ^ 48)

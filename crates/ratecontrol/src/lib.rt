@@ -2,6 +2,8 @@
 //! hand on comes from `pass_data`, and the numbers of the reservoir from `reservoir`.
 //!
 //! All logarithms are binary and in Q57 where nothing else is said. Memory is taken by the call alone that begins a second pass.
+//!
+//! Lemmas of crates above cite `specs/` and `proofs/KeptLaws`, and nothing else of this crate's proofs.
 #![tactic(auto)]
 
 mod ahead;
