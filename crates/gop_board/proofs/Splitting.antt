@@ -3,7 +3,7 @@ use Rattle.std.proofs.Common.{◌≡◌, ℕ, zero, suc, ◌+◌, ◌-◌, ◌<�
 use Rattle.std.specs.List.{All, flat_map, list_any, range_with_len, slice_get, take-map, drop-map}
 use Rattle.std.proofs.lemmas.Bool.{cases_lt, cond-true, cond-false, lt-ltb, le-ltb}
 use Rattle.std.proofs.lemmas.Bool.Decides.{nat_tests}
-use Rattle.std.proofs.lemmas.List.{length-append, map-append, take_all, take_more}
+use Rattle.std.proofs.lemmas.List.{length-append, length-map, map-append, take_all, take_more}
 use Rattle.std.proofs.lemmas.List.Concat.{flat_map-append}
 use Rattle.std.proofs.lemmas.List.Elements.{All-append, All-weaker, All-nil, All-cons, All-head, All-tail, filter-append}
 use Rattle.std.proofs.lemmas.List.Folds.{list_any-append, list_any_none}
@@ -220,7 +220,7 @@ ahead-next starts further position answer at same here told before k some less =
       ap (is_start further) is ∙ here ∙ told ∙ ap at (sym is)
 ]
 
-pub split-first : {T : Type 0} (enc : EncoderConfig) (frames : List (Frame T)) (last : Job T) (a : DetectorTold T) →
+split-first : {T : Type 0} (enc : EncoderConfig) (frames : List (Frame T)) (last : Job T) (a : DetectorTold T) →
     last.number ≡ 0 → last.first ≡ 0 → length last.frames ≡ 1 → pictures last ≡ take 1 frames → IsSplitTo enc frames [] last 1 a a
 split-first enc frames last a number first one joined = record {
   placed = tt;
@@ -274,7 +274,7 @@ module _ {T : Type 0} (enc : EncoderConfig) (frames : List (Frame T)) (ended : L
       )
 
   -- the frame joins the last job
-  pub split-more : (longer : Job T) (picture : Frame T) → IsSplitTo enc frames ended last position a b → 0 < position →
+  split-more : (longer : Job T) (picture : Frame T) → IsSplitTo enc frames ended last position a b → 0 < position →
       take (position + 1) frames ≡ take position frames ++ picture ∷ [] → IsAskedAt enc frames position last.first false b c →
       longer.number ≡ last.number → longer.first ≡ last.first → length longer.frames ≡ length last.frames + 1 →
       pictures longer ≡ pictures last ++ picture ∷ [] → IsSplitTo enc frames ended longer (position + 1) a c
@@ -301,7 +301,7 @@ module _ {T : Type 0} (enc : EncoderConfig) (frames : List (Frame T)) (ended : L
       }
 
   -- the last job ends, and the next starts with the frame
-  pub split-next : (next : Job T) (picture : Frame T) → IsSplitTo enc frames ended last position a b → 0 < position →
+  split-next : (next : Job T) (picture : Frame T) → IsSplitTo enc frames ended last position a b → 0 < position →
       take (position + 1) frames ≡ take position frames ++ picture ∷ [] → IsAskedAt enc frames position last.first true b c →
       next.number ≡ last.number + 1 → next.first ≡ position → length next.frames ≡ 1 →
       pictures next ≡ picture ∷ [] → IsSplitTo enc frames (ended ++ last ∷ []) next (position + 1) a c
@@ -335,7 +335,7 @@ module _ {T : Type 0} (enc : EncoderConfig) (frames : List (Frame T)) (ended : L
       }
 
 -- all frames are split
-pub split-end : {T : Type 0} (enc : EncoderConfig) (frames : List (Frame T)) (ended : List (Job T)) (last : Job T) (position : ℕ) (a b : DetectorTold T) →
+split-end : {T : Type 0} (enc : EncoderConfig) (frames : List (Frame T)) (ended : List (Job T)) (last : Job T) (position : ℕ) (a b : DetectorTold T) →
     IsSplitTo enc frames ended last position a b → position ≡ length frames → IsSplit enc frames (ended ++ last ∷ []) a b
 split-end {T} enc frames ended last position a b so all =
     let ends : starts_of (ended ++ last ∷ []) ≡ starts_with ended last = map-append (λ (job : Job T). job.first) ended (last ∷ []) in
@@ -353,19 +353,6 @@ split-end {T} enc frames ended last position a b so all =
           subst (λ (l : List ℕ). IfSome a.answers (λ at. (k : ℕ) → 0 < k → k < length frames → is_start l k ≡ at k)) (sym ends)
           (subst (λ (n : ℕ). IfSome a.answers (λ at. (k : ℕ) → 0 < k → k < n → is_start (starts_with ended last) k ≡ at k)) all so.ahead_of);
     }
-
--- no frames, no jobs
-pub split-none : {T : Type 0} (enc : EncoderConfig) (frames : List (Frame T)) (a : DetectorTold T) → frames ≡ [] → IsSplit enc frames [] a a
-split-none {T} enc frames a none =
-    subst (λ (l : List (Frame T)). IsSplit enc l [] a a) (sym none) (record {
-      jobs_are = record { joined = refl; each = λ place job at. absurd (cc) };
-      asked = grew-none a.questions;
-      ahead_of = nothing a.answers;
-    })
-  where
-    nothing : (o : Option (ℕ → Bool)) → IfSome o (λ at. (k : ℕ) → 0 < k → k < 0 → is_start [] k ≡ at k)
-    nothing None = tt
-    nothing (Some at) = λ k some less. absurd (omega arith)
 
 -- ---- what the code has
 
@@ -394,7 +381,7 @@ taken-next {T} frames position frame d within same =
     ∙ map-append picture (take position frames) (get_or frames position d ∷ [])
     ∙ ap₂ (λ (l : List (Frame T)) (x : Frame T). l ++ x ∷ []) (sym (take-map picture position frames)) (sym same)
 
-pub first-pictures : {T : Type 0} (frames : List (Arc (Frame T) Global)) (first frame : Arc (Frame T) Global) (last : Job T) →
+first-pictures : {T : Type 0} (frames : List (Arc (Frame T) Global)) (first frame : Arc (Frame T) Global) (last : Job T) →
     Some first ≡ slice_get frames 0 → frame.value ≡ first.value → last.frames ≡ frame ∷ [] → pictures last ≡ take 1 (map (λ one. one.value) frames)
 first-pictures [] first frame last at same is = absurd (cc)
 first-pictures {T} (one ∷ frames) first frame last at same is =
@@ -402,8 +389,18 @@ first-pictures {T} (one ∷ frames) first frame last at same is =
     ap (λ (l : List (Arc (Frame T) Global)). map (λ (x : Arc (Frame T) Global). x.value) l) is
     ∙ ap (λ (x : Frame T). x ∷ []) (same ∙ ap (λ (x : Arc (Frame T) Global). x.value) head)
 
+-- the first frame begins the first job
+pub split-begun : {T : Type 0} (enc : EncoderConfig) (frames : List (Arc (Frame T) Global)) (ended : List (Job T)) (last : Job T) (first frame : Arc (Frame T) Global) (a : DetectorTold T) →
+    ended ≡ [] → Some first ≡ slice_get frames 0 → frame.value ≡ first.value → last ≡ record { number = 0; first = 0; frames = frame ∷ [] } →
+    IsSplitTo enc (map (λ one. one.value) frames) ended last 1 a a
+split-begun {T} enc frames ended last first frame a none at same is =
+    subst (λ (l : List (Job T)). IsSplitTo enc (map (λ one. one.value) frames) l last 1 a a) (sym none)
+    (split-first enc (map (λ one. one.value) frames) last a (ap (λ (job : Job T). job.number) is) (ap (λ (job : Job T). job.first) is)
+    (ap (λ (job : Job T). length job.frames) is)
+    (first-pictures frames first frame last at same (ap (λ (job : Job T). job.frames) is)))
+
 -- a frame joins the last job or begins one
-pub split-step : {T : Type 0} (enc : EncoderConfig) (frames : List (Arc (Frame T) Global)) (ended ended' : List (Job T)) (last last' : Job T) (position : ℕ)
+split-step : {T : Type 0} (enc : EncoderConfig) (frames : List (Arc (Frame T) Global)) (ended ended' : List (Job T)) (last last' : Job T) (position : ℕ)
     (a b c : DetectorTold T) (frame d : Arc (Frame T) Global) (starts : Bool) → 0 < position → position < length frames →
     frame.value ≡ (get_or frames position d).value → IsSplitTo enc (map (λ one. one.value) frames) ended last position a b →
     IsAskedAt enc (map (λ one. one.value) frames) position last.first starts b c →
@@ -423,3 +420,24 @@ split-step {T} enc frames ended ended' last last' position a b c frame d false s
     (ap (λ (job : Job T). job.number) made.1) (ap (λ (job : Job T). job.first) made.1)
     (omega (arith, count, length-append last.frames (frame ∷ [])))
     (ap (λ (job : Job T). pictures job) made.1 ∙ map-append (λ (one : Arc (Frame T) Global). one.value) last.frames (frame ∷ [])))
+
+-- the same, where the detector saw the frames in another place
+pub split-seen : {T : Type 0} (enc : EncoderConfig) (frames seen : List (Arc (Frame T) Global)) (ended ended' : List (Job T)) (last last' : Job T) (position : ℕ)
+    (a b c : DetectorTold T) (frame d : Arc (Frame T) Global) (starts : Bool) → 0 < position → position < length frames →
+    frame.value ≡ d.value → d ≡ get_or frames position d → IsSplitTo enc (map (λ one. one.value) frames) ended last position a b → seen ≡ frames →
+    IsAskedAt enc (map (λ one. one.value) seen) position last.first starts b c →
+    MatchBool starts
+    ((ended' ≡ ended ++ last ∷ []) × (last' ≡ record { number = last.number + 1; first = position; frames = frame ∷ [] }))
+    ((ended' ≡ ended) × (last' ≡ record last { frames = last.frames ++ frame ∷ [] })) →
+    IsSplitTo enc (map (λ one. one.value) frames) ended' last' (position + 1) a c
+split-seen {T} enc frames seen ended ended' last last' position a b c frame d starts some within same at so is told made =
+    split-step enc frames ended ended' last last' position a b c frame d starts some within (same ∙ ap (λ (one : Arc (Frame T) Global). one.value) at) so
+    (subst (λ (l : List (Arc (Frame T) Global)). IsAskedAt enc (map (λ one. one.value) l) position last.first starts b c) is told) made
+
+-- the last job ends with the frames
+pub split-whole : {T : Type 0} (enc : EncoderConfig) (frames : List (Arc (Frame T) Global)) (ended : List (Job T)) (last : Job T) (jobs : List (Job T)) (position : ℕ) (a b : DetectorTold T) →
+    IsSplitTo enc (map (λ one. one.value) frames) ended last position a b → position ≡ length frames → jobs ≡ ended ++ last ∷ [] →
+    IsSplit enc (map (λ one. one.value) frames) jobs a b
+split-whole {T} enc frames ended last jobs position a b so all is =
+    subst (λ (l : List (Job T)). IsSplit enc (map (λ one. one.value) frames) l a b) (sym is)
+    (split-end enc (map (λ one. one.value) frames) ended last position a b so (all ∙ sym (length-map frames (λ one. one.value))))
