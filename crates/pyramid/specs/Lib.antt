@@ -6,6 +6,7 @@ pub mod Begins
 pub mod Building
 pub mod Display
 pub mod Gop
+pub mod Guess
 pub mod Known
 pub mod Laws
 pub mod Levels

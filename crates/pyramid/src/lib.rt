@@ -4,6 +4,7 @@
 #![tactic(auto)]
 
 mod command;
+mod guess;
 mod inter_config;
 pub mod laws;
 mod named;
@@ -20,6 +21,7 @@ mod spot;
 mod tests;
 
 pub use command::Command;
+pub use guess::GuessedAhead;
 pub use inter_config::InterConfig;
 pub use place::{Place, PlaceRow};
 pub use plans::plan;
