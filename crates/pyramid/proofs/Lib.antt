@@ -27,7 +27,12 @@ pub mod KnownUnits
 pub mod PlacedLists
 pub mod PlacedUnits
 pub mod Walks
+pub mod KeptKeys
 pub mod ScheduleSteps
+pub mod GuessSteps
+pub mod GuessKeys
+pub mod GuessEnds
+pub mod GuessAnswers
 pub mod NamedSteps
 pub mod NamedRows
 pub mod NamedGroups

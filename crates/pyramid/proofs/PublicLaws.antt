@@ -3,7 +3,7 @@ use Rattle.std.proofs.Common.{ℕ, take}
 use Rattle.std.proofs.lemmas.Option.{slice_get_within, get_or_from_slice_get}
 use Rattle.pyramid.specs.declared.command.Command.TheVariants.{Show}
 use Rattle.pyramid.specs.Display.{empty_slots, shows, showing}
-use Rattle.pyramid.specs.Laws.{GopReplays, PlanIsPlayable, HeldIsCoded, GopIsMoved, PlanIsMoved, SlotsAreOfTheGop, ShowCommandsShowTheirPositions, GopHides, StartsRise, SlotsAfterBoth, AcceptsBoth, ShownByBoth, ShowingBoth, SettingsHaveATable, FirstEmptyIsNamed, FirstRefusedIsFirst, ReferencesNamePositions, SettingsSwitchInOrder, UnitsMakeThePlan, KnownBeginsThePlan, KnownStays, KnownBeginsLaterPlans, PlacesHaveTheCommands, PlacesFollowTheTable}
+use Rattle.pyramid.specs.Laws.{GopReplays, PlanIsPlayable, HeldIsCoded, GopIsMoved, PlanIsMoved, SlotsAreOfTheGop, ShowCommandsShowTheirPositions, GopHides, StartsRise, SlotsAfterBoth, AcceptsBoth, ShownByBoth, ShowingBoth, SettingsHaveATable, FirstEmptyIsNamed, FirstRefusedIsFirst, ReferencesNamePositions, SettingsSwitchInOrder, UnitsMakeThePlan, KnownBeginsThePlan, KnownStays, KnownBeginsLaterPlans, PlacesHaveTheCommands, PlacesFollowTheTable, GuessesReachTheirUnits}
 use Rattle.pyramid.specs.Plan.{plan}
 use Rattle.pyramid.specs.Playable.{InOrder}
 use Rattle.pyramid.proofs.Below.{plan-below}
@@ -11,6 +11,7 @@ use Rattle.pyramid.proofs.Coded.{held-coded}
 use Rattle.pyramid.proofs.CodedOnce.{plan-codes_once}
 use Rattle.pyramid.proofs.Counting.{hiding-gop, plan-length}
 use Rattle.pyramid.proofs.Current.{gop-holds}
+use Rattle.pyramid.proofs.GuessEnds.{walk-reaches}
 use Rattle.pyramid.proofs.KnownUnits.{units-plan, known-begins, known-stays, known-begins_later}
 use Rattle.pyramid.proofs.Lists.{count-append}
 use Rattle.pyramid.proofs.Machine.{slots_after-append, accepts-append, shown-append}
@@ -102,6 +103,9 @@ places_have_the_commands = settled-commands
 
 pub places_follow_the_table : PlacesFollowTheTable
 places_follow_the_table = place-follows
+
+pub guesses_reach_their_units : GuessesReachTheirUnits
+guesses_reach_their_units = walk-reaches
 
 pub references_name_positions : ReferencesNamePositions
 references_name_positions = plan-names

@@ -10,13 +10,14 @@ use Rattle.pyramid.specs.declared.command.Command.{Command}
 use Rattle.pyramid.specs.declared.place.Place.{Place}
 use Rattle.pyramid.specs.declared.schedule.Schedule.{Schedule}
 use Rattle.pyramid.specs.declared.spot.Spot.{Spot}
-use Rattle.pyramid.specs.Building.{opening_spot, unit_to, spot_to, due_to, next_of, Walk, AreKeysFrom, Builds, begins_with_command}
+use Rattle.pyramid.specs.Building.{opening_spot, unit_to, spot_to, due_to, next_of, Walk, AreKeysFrom, Builds, begins_with_command, kept_from}
 use Rattle.pyramid.specs.Known.{AreUndecided, is_coding}
 use Rattle.pyramid.specs.Numbers.{Numbers, ahead}
 use Rattle.pyramid.specs.Places.{PlacedUnit, commands_at, places_from, places_of, settled_places, settled_commands}
 use Rattle.pyramid.specs.Rows.{HasTable}
 use Rattle.pyramid.specs.Schedules.{IsBuilt, IsSchedule}
 use Rattle.pyramid.proofs.Fronts.{flat_map-append}
+use Rattle.pyramid.proofs.KeptKeys.{Rise, rise-within, begun-after, walk-rise, all-rise, keys-later, kept-within, kept-next, kept-built}
 use Rattle.pyramid.proofs.PlacedLists.{commands-from, commands-append, from-append, from-next}
 use Rattle.pyramid.proofs.PlacedUnits.{settled-commands}
 use Rattle.pyramid.proofs.Walks.{next-same, walk-append, walk-stays, due-none, settled-walk}
@@ -66,9 +67,6 @@ build-on cfg numbers every interval frames flushed keys left from mid to before 
     subst₂ (λ (n : Numbers) (v : ℕ). Builds n v frames flushed keys from mid before between → Builds n v frames flushed keys from to before after) same_numbers same_interval
     (λ b. build-more cfg every frames flushed keys left from mid to before between after b are due put moved) built
 
-pub keys-on : (start later : ℕ) (older left keys : List ℕ) → start ≤ later → AreKeysFrom start older keys → AreKeysFrom later left older → AreKeysFrom later left keys
-keys-on start later older left keys h first then frames place above = then frames place above ∙ first frames place (omega arith)
-
 -- ---- what a schedule is
 
 pub schedule-is : (numbers : Numbers) (interval frames : ℕ) (flushed : Bool) (keys : List ℕ) (commands : ℕ) (s : Schedule) → 1 ≤ interval → s.cfg ≡ numbers → s.interval ≡ interval → IsBuilt numbers interval frames flushed keys commands s → IsSchedule numbers interval frames flushed keys commands s
@@ -89,17 +87,59 @@ schedule-is numbers interval frames flushed keys commands s some has_numbers has
       built = built;
     }
 
+-- ---- the keys that it keeps
+
+spot-begun : (numbers : Numbers) (interval frames : ℕ) (flushed : Bool) (keys : List ℕ) (units : List PlacedUnit) (from to : Spot) → Walk numbers interval frames flushed keys from units to → (from.begun ≡ false → from.start ≡ 0) → to.begun ≡ false → to.start ≡ 0
+spot-begun numbers interval frames flushed keys [] from to walk opens e = sym (ap (λ (s : Spot). s.start) walk) ∙ opens (ap (λ (s : Spot). s.begun) walk ∙ e)
+spot-begun numbers interval frames flushed keys (unit ∷ units) from to walk opens e =
+    let next = next_of interval frames keys from in
+    spot-begun numbers interval frames flushed keys units (spot_to numbers next from) to walk.2
+    (λ none. absurd (true≢false (sym (begun-after numbers next from.begun from.start from.number) ∙ none))) e
+
+spot-opens : (numbers : Numbers) (interval frames : ℕ) (flushed : Bool) (keys : List ℕ) (units : List PlacedUnit) (to : Spot) → Walk numbers interval frames flushed keys opening_spot units to → to.begun ≡ false → to.start ≡ 0
+spot-opens numbers interval frames flushed keys units to walk = spot-begun numbers interval frames flushed keys units opening_spot to walk (λ e. refl)
+
+-- starts rise along the places that are held
+pub held-rise : (numbers : Numbers) (interval frames : ℕ) (flushed : Bool) (keys : List ℕ) (commands : ℕ) (s : Schedule) → 1 ≤ interval → IsBuilt numbers interval frames flushed keys commands s → Rise 0 s.places.items s.spot.start
+held-rise numbers interval frames flushed keys commands s some b =
+    subst (λ (ps : List Place). Rise 0 ps s.spot.start) (sym b.places) (all-rise numbers interval frames flushed keys commands some b.units s.spot b.walk)
+
+-- all keys above the last that was built are kept
+pub built-keys : (numbers : Numbers) (interval frames : ℕ) (flushed : Bool) (keys : List ℕ) (commands : ℕ) (s : Schedule) → 1 ≤ interval → IsBuilt numbers interval frames flushed keys commands s → AreKeysFrom s.spot.start s.keys.items keys
+built-keys numbers interval frames flushed keys commands s some b =
+    keys-later (kept_from s.places.items s.spot.start) s.spot.start s.keys.items keys
+    (kept-within 0 s.places.items s.spot.start (held-rise numbers interval frames flushed keys commands s some b)) b.keys_left
+
+dropped-keys : (numbers : Numbers) (interval frames : ℕ) (flushed : Bool) (keys : List ℕ) (commands : ℕ) (old new : Schedule) → 1 ≤ interval → IsBuilt numbers interval frames flushed keys commands old →
+    new.spot ≡ old.spot → AreKeysFrom (kept_from new.places.items new.spot.start) new.keys.items old.keys.items → new.places.items ≡ places_from 0 (drop 1 old.places.items) →
+    AreKeysFrom (kept_from new.places.items new.spot.start) new.keys.items keys
+dropped-keys numbers interval frames flushed keys commands old new some b same_spot left passed all place above =
+    let rise = held-rise numbers interval frames flushed keys commands old some b in
+    let kept : kept_from old.places.items old.spot.start ≤ kept_from new.places.items new.spot.start =
+    omega (arith, kept-next 0 old.places.items old.spot.start rise, ap (λ (ps : List Place). kept_from ps new.spot.start) passed, ap (λ (s : Spot). kept_from (places_from 0 (drop 1 old.places.items)) s.start) same_spot) in
+    left all place above ∙ b.keys_left all place (omega (arith, kept, above))
+
 -- ---- its calls
 
 -- frames are accepted, or no more come
-later-is : (numbers : Numbers) (interval before frames : ℕ) (was flushed : Bool) (keys : List ℕ) (commands : ℕ) (old new : Schedule) →
+later-is : (numbers : Numbers) (interval before frames : ℕ) (was flushed : Bool) (keys : List ℕ) (commands : ℕ) (old new : Schedule) → 1 ≤ interval →
     (built : IsBuilt numbers interval before was keys commands old) →
     Walk numbers interval frames flushed keys opening_spot built.units old.spot →
     Builds numbers interval frames flushed keys old.spot new.spot old.places.items new.places.items →
-    AreKeysFrom new.spot.start new.keys.items keys →
+    new.keys.items ≡ old.keys.items →
     due_to numbers frames flushed (next_of interval frames new.keys.items new.spot) new.spot ≡ false →
     IsBuilt numbers interval frames flushed keys commands new
-later-is numbers interval before frames was flushed keys commands old new built first more are ended =
+later-is numbers interval before frames was flushed keys commands old new some built first more same_keys ended =
+    let further : Rise old.spot.start (places_of more.units) new.spot.start = walk-rise numbers interval frames flushed keys some more.units old.spot new.spot (spot-opens numbers interval before was keys built.units old.spot built.walk) more.walk in
+    let kept : kept_from old.places.items old.spot.start ≤ kept_from new.places.items new.spot.start =
+    omega (arith, kept-built old.places.items (places_of more.units) old.spot.start new.spot.start old.ready further, ap (λ (ps : List Place). kept_from ps new.spot.start) more.places) in
+    let left : AreKeysFrom (kept_from new.places.items new.spot.start) new.keys.items keys =
+    subst (λ (ks : List ℕ). AreKeysFrom (kept_from new.places.items new.spot.start) ks keys) (sym same_keys)
+    (keys-later (kept_from old.places.items old.spot.start) (kept_from new.places.items new.spot.start) old.keys.items keys kept built.keys_left) in
+    let are : AreKeysFrom new.spot.start new.keys.items keys =
+    subst (λ (ks : List ℕ). AreKeysFrom new.spot.start ks keys) (sym same_keys)
+    (keys-later old.spot.start new.spot.start old.keys.items keys (rise-within old.spot.start (places_of more.units) new.spot.start further)
+    (built-keys numbers interval before was keys commands old some built)) in
     let both = places-append built.units more.units in
     let enough : commands ≤ size (commands_at (places_of built.units ++ places_of more.units)) =
     omega (arith, built.within, ap size (commands-append (places_of built.units) (places_of more.units)), length-append (commands_at (places_of built.units)) (commands_at (places_of more.units))) in
@@ -112,13 +152,13 @@ later-is numbers interval before frames was flushed keys commands old new built 
           ∙ sym (from-append commands (places_of built.units) (places_of more.units) built.within)
           ∙ ap (places_from commands) (sym both);
       within = subst (λ (ps : List Place). commands ≤ size (commands_at ps)) (sym both) enough;
-      keys_left = are;
+      keys_left = left;
     }
 
 -- what `build` says
 module _ (frames : ℕ) (flushed : Bool) (old new : Schedule) (same_numbers : new.cfg ≡ old.cfg) (same_interval : new.interval ≡ old.interval)
     (builds : (keys : List ℕ) → AreKeysFrom old.spot.start old.keys.items keys → Builds old.cfg old.interval frames flushed keys old.spot new.spot old.places.items new.places.items)
-    (left : (keys : List ℕ) → AreKeysFrom old.spot.start old.keys.items keys → AreKeysFrom new.spot.start new.keys.items keys)
+    (same_keys : new.keys.items ≡ old.keys.items)
     (ended : due_to new.cfg frames flushed (next_of new.interval frames new.keys.items new.spot) new.spot ≡ false)
     (numbers : Numbers) (interval before : ℕ) (keys : List ℕ) (commands : ℕ) where
   more-is : (was : Bool) (is : IsSchedule numbers interval before was keys commands old) → Walk numbers interval frames flushed keys opening_spot is.built.units old.spot → IsSchedule numbers interval frames flushed keys commands new
@@ -126,10 +166,10 @@ module _ (frames : ℕ) (flushed : Bool) (old new : Schedule) (same_numbers : ne
       let has_numbers : new.cfg ≡ numbers = same_numbers ∙ is.has_numbers in
       let has_interval : new.interval ≡ interval = same_interval ∙ is.has_interval in
       let some : 1 ≤ interval = subst (λ (v : ℕ). 1 ≤ v) is.has_interval old.some in
-      let are = is.built.keys_left in
-      let built = later-is numbers interval before frames was flushed keys commands old new is.built first
+      let are = built-keys numbers interval before was keys commands old some is.built in
+      let built = later-is numbers interval before frames was flushed keys commands old new some is.built first
       (subst₂ (λ (n : Numbers) (v : ℕ). Builds n v frames flushed keys old.spot new.spot old.places.items new.places.items) is.has_numbers is.has_interval (builds keys are))
-      (left keys are)
+      same_keys
       (subst₂ (λ (n : Numbers) (v : ℕ). due_to n frames flushed (next_of v frames new.keys.items new.spot) new.spot ≡ false) has_numbers has_interval ended) in
       schedule-is numbers interval frames flushed keys commands new some has_numbers has_interval built
 
@@ -147,16 +187,17 @@ module _ (frames : ℕ) (flushed : Bool) (old new : Schedule) (same_numbers : ne
 -- where no more come already
 pub again-is : (frames : ℕ) (old new : Schedule) → new.cfg ≡ old.cfg → new.interval ≡ old.interval →
     ((keys : List ℕ) → AreKeysFrom old.spot.start old.keys.items keys → Builds old.cfg old.interval frames true keys old.spot new.spot old.places.items new.places.items) →
-    ((keys : List ℕ) → AreKeysFrom old.spot.start old.keys.items keys → AreKeysFrom new.spot.start new.keys.items keys) →
+    new.keys.items ≡ old.keys.items →
     due_to new.cfg frames true (next_of new.interval frames new.keys.items new.spot) new.spot ≡ false →
     (numbers : Numbers) (interval : ℕ) (keys : List ℕ) (commands : ℕ) →
     IsSchedule numbers interval frames true keys commands old → IsSchedule numbers interval frames true keys commands new
-again-is frames old new same_numbers same_interval builds left ended numbers interval keys commands is =
-    more-is frames true old new same_numbers same_interval builds left ended numbers interval frames keys commands true is is.built.walk
+again-is frames old new same_numbers same_interval builds same_keys ended numbers interval keys commands is =
+    more-is frames true old new same_numbers same_interval builds same_keys ended numbers interval frames keys commands true is is.built.walk
 
 -- a key is decided
 pub noted-is : (position : ℕ) (old new : Schedule) → new.cfg ≡ old.cfg → new.interval ≡ old.interval → new.spot ≡ old.spot → new.places.items ≡ old.places.items →
-    ((keys : List ℕ) → AreKeysFrom old.spot.start old.keys.items keys → AreKeysFrom old.spot.start new.keys.items (keys ++ position ∷ [])) →
+    ((keys : List ℕ) → AreKeysFrom (kept_from old.places.items old.spot.start) old.keys.items keys →
+    AreKeysFrom (kept_from old.places.items old.spot.start) new.keys.items (keys ++ position ∷ [])) →
     (numbers : Numbers) (interval frames : ℕ) (keys : List ℕ) (commands : ℕ) → frames ≤ position + ahead numbers →
     IsSchedule numbers interval frames false keys commands old → IsSchedule numbers interval frames false (keys ++ position ∷ []) commands new
 noted-is position old new same_numbers same_interval same_spot same_places left numbers interval frames keys commands later is =
@@ -173,7 +214,7 @@ noted-is position old new same_numbers same_interval same_spot same_places left 
       ended = subst (λ (s : Spot). due_to numbers frames false (next_of interval frames more s) s ≡ false) (sym same_spot) ended;
       places = same_places ∙ b.places;
       within = b.within;
-      keys_left = subst (λ (s : Spot). AreKeysFrom s.start new.keys.items more) (sym same_spot) (left keys b.keys_left);
+      keys_left = subst₂ (λ (s : Spot) (ps : List Place). AreKeysFrom (kept_from ps s.start) new.keys.items more) (sym same_spot) (sym same_places) (left keys b.keys_left);
     })
   where
     first : AreUndecided numbers frames (position ∷ [])
@@ -181,10 +222,11 @@ noted-is position old new same_numbers same_interval same_spot same_places left 
     first (suc k) d low = absurd (omega arith)
 
 -- a command is coded
-pub advanced-is : (old new : Schedule) → new.cfg ≡ old.cfg → new.interval ≡ old.interval → new.spot ≡ old.spot → new.keys.items ≡ old.keys.items → new.places.items ≡ places_from 0 (drop 1 old.places.items) →
+pub advanced-is : (old new : Schedule) → new.cfg ≡ old.cfg → new.interval ≡ old.interval → new.spot ≡ old.spot →
+    AreKeysFrom (kept_from new.places.items new.spot.start) new.keys.items old.keys.items → new.places.items ≡ places_from 0 (drop 1 old.places.items) →
     (numbers : Numbers) (interval frames : ℕ) (flushed : Bool) (keys : List ℕ) (commands : ℕ) → commands < size (settled_commands numbers interval frames flushed keys) →
     IsSchedule numbers interval frames flushed keys commands old → IsSchedule numbers interval frames flushed keys (commands + 1) new
-advanced-is old new same_numbers same_interval same_spot same_keys passed numbers interval frames flushed keys commands there is =
+advanced-is old new same_numbers same_interval same_spot left passed numbers interval frames flushed keys commands there is =
     let some : 1 ≤ interval = subst (λ (v : ℕ). 1 ≤ v) is.has_interval old.some in
     let b = is.built in
     let settled = settled-walk numbers interval some frames keys flushed b.units old.spot b.walk b.ended in
@@ -196,7 +238,7 @@ advanced-is old new same_numbers same_interval same_spot same_keys passed number
       ended = subst (λ (s : Spot). due_to numbers frames flushed (next_of interval frames keys s) s ≡ false) (sym same_spot) b.ended;
       places = passed ∙ ap (λ (ps : List Place). places_from 0 (drop 1 ps)) b.places ∙ sym (from-next commands (places_of b.units)) ∙ ap (λ (n : ℕ). places_from n (places_of b.units)) one_more;
       within = omega (arith, there, ap size all);
-      keys_left = subst₂ (λ (s : Spot) (ks : List ℕ). AreKeysFrom s.start ks keys) (sym same_spot) (sym same_keys) b.keys_left;
+      keys_left = dropped-keys numbers interval frames flushed keys commands old new some b same_spot left passed;
     })
 
 -- none is known
@@ -208,10 +250,11 @@ none-left (place ∷ places) ready none = absurd (by place.command ready none)
     by None h e = true≢false (sym h)
     by (Some command) h e = cc
 
-pub stayed-is : (old new : Schedule) → new.cfg ≡ old.cfg → new.interval ≡ old.interval → new.spot ≡ old.spot → new.keys.items ≡ old.keys.items → new.places.items ≡ places_from 0 (drop 1 old.places.items) →
+pub stayed-is : (old new : Schedule) → new.cfg ≡ old.cfg → new.interval ≡ old.interval → new.spot ≡ old.spot →
+    AreKeysFrom (kept_from new.places.items new.spot.start) new.keys.items old.keys.items → new.places.items ≡ places_from 0 (drop 1 old.places.items) →
     (numbers : Numbers) (interval frames : ℕ) (flushed : Bool) (keys : List ℕ) (commands : ℕ) → size (settled_commands numbers interval frames flushed keys) ≤ commands →
     IsSchedule numbers interval frames flushed keys commands old → IsSchedule numbers interval frames flushed keys commands new
-stayed-is old new same_numbers same_interval same_spot same_keys passed numbers interval frames flushed keys commands end is =
+stayed-is old new same_numbers same_interval same_spot left passed numbers interval frames flushed keys commands end is =
     let some : 1 ≤ interval = subst (λ (v : ℕ). 1 ≤ v) is.has_interval old.some in
     let b = is.built in
     let gone : old.places.items ≡ [] = none-left old.places.items old.ready (is.commands_are ∙ drop_all commands (settled_commands numbers interval frames flushed keys) end) in
@@ -221,7 +264,7 @@ stayed-is old new same_numbers same_interval same_spot same_keys passed numbers 
       ended = subst (λ (s : Spot). due_to numbers frames flushed (next_of interval frames keys s) s ≡ false) (sym same_spot) b.ended;
       places = passed ∙ ap (λ (ps : List Place). places_from 0 (drop 1 ps)) gone ∙ sym gone ∙ b.places;
       within = b.within;
-      keys_left = subst₂ (λ (s : Spot) (ks : List ℕ). AreKeysFrom s.start ks keys) (sym same_spot) (sym same_keys) b.keys_left;
+      keys_left = dropped-keys numbers interval frames flushed keys commands old new some b same_spot left passed;
     })
 
 -- the next command

@@ -1,6 +1,8 @@
 -- How the places of a plan are built, unit after unit, each once.
-use Rattle.std.specs.Prelude.{◌≡◌, ℕ, ◌+◌, ◌-◌, ◌*◌, ◌^◌, ◌≤◌, Bool, true, false, ◌||◌, ◌&&◌, nat_lt, if◌then◌else◌, IsTrue, List, [], ◌∷◌, ◌++◌, is_some}
-use Rattle.std.specs.List.{count_by}
+use Rattle.std.specs.Prelude.{◌≡◌, ℕ, ◌+◌, ◌-◌, ◌*◌, ◌^◌, ◌≤◌, Bool, true, false, ◌||◌, ◌&&◌, nat_lt, nat_le, if◌then◌else◌, IsTrue, List, [], ◌∷◌, ◌++◌, Option, Some, None, is_some}
+use Rattle.std.specs.List.{count_by, prefix_len}
+use Rattle.pyramid.specs.declared.command.Command.{Command}
+use Rattle.pyramid.specs.declared.command.Command.TheVariants.{Code, Show}
 use Rattle.pyramid.specs.declared.place.Place.{Place}
 use Rattle.pyramid.specs.declared.spot.Spot.{Spot}
 use Rattle.pyramid.specs.Gop.{group_count}
@@ -77,6 +79,26 @@ pub record Builds (numbers : Numbers) (interval frames : ℕ) (flushed : Bool) (
   pub units : List PlacedUnit
   pub walk : Walk numbers interval frames flushed keys from units to
   pub places : after ≡ places_from 0 (before ++ places_of units)
+
+-- how many keys, from the first on, aren't above a start
+abbrev pub passed_keys : ℕ → List ℕ → ℕ
+passed_keys start keys = prefix_len (λ key. nat_le key start) keys
+
+-- the start of the first place's GOP, and where no place is held that of the last key that was built
+abbrev pub kept_from : List Place → ℕ → ℕ
+kept_from [] start = start
+kept_from (place ∷ places) start = place.start
+
+-- the input of a command's frame
+abbrev pub frame_of : Option Command → ℕ
+frame_of (Some (Code frame kind refs refresh shown)) = frame
+frame_of (Some (Show slot)) = 0
+frame_of None = 0
+
+-- whether a place's numbers are small
+abbrev pub is_near : Place → Bool
+is_near place =
+    nat_le place.start (2 ^ 31) && nat_le place.number (2 ^ 40) && nat_le (frame_of place.command) (2 ^ 31)
 
 -- whether the first place, if there is one, has a command
 abbrev pub begins_with_command : List Place → Bool

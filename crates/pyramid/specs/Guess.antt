@@ -1,12 +1,12 @@
 -- A guess of what the next temporal units have: a walk over the places from the one that is being coded on. Known places
 -- tell where keys stand; all else is guessed from the place table, with a key at each start that is decided and at most an
 -- interval behind the last, as if inputs never ended.
-use Rattle.std.specs.Prelude.{ℕ, ◌+◌, ◌-◌, ◌*◌, ◌/◌, min, Bool, true, false, ◌==◌, nat_lt, nat_le, if◌then◌else◌, List, [], ◌∷◌, map, slice_set, Option, Some, None}
+use Rattle.std.specs.Prelude.{ℕ, ◌+◌, ◌-◌, ◌*◌, ◌/◌, min, Bool, ◌==◌, nat_lt, nat_le, if◌then◌else◌, List, [], ◌∷◌, map, slice_set, Option, Some, None}
 use Rattle.std.specs.List.{slice_get, slice_index_or}
 use Rattle.std.proofs.Common.{zero, suc}
 use Rattle.av1_settings.specs.declared.frame_type.FrameType.TheVariants.{KEY}
 use Rattle.pyramid.specs.declared.command.Command.{Command}
-use Rattle.pyramid.specs.declared.command.Command.TheVariants.{Code, Show}
+use Rattle.pyramid.specs.declared.command.Command.TheVariants.{Code}
 use Rattle.pyramid.specs.declared.guess.GuessWalk.{GuessWalk}
 use Rattle.pyramid.specs.declared.guess.GuessedAhead.{GuessedAhead}
 use Rattle.pyramid.specs.declared.place.Place.{Place}
@@ -44,6 +44,10 @@ endless_start_after interval keys start =
     min (key_above (start + interval) keys start) (start + interval)
 
 -- ---- the walk, and its step by the first of five cases that applies
+--
+-- It stands `behind` places behind the one that is being coded, and `since_key` places behind that of its last key, which is
+-- input `key_input`. By subtype it met `before` until this key and `since` from it on. It met `frames` coded frames and `tus`
+-- temporal units in all, and `frames_at_key` and `tus_at_key` until the key.
 
 -- it begins at the place that is being coded, or, where nothing is known, at the key of input 0
 abbrev pub first_place : List Place → Place
@@ -173,7 +177,7 @@ abbrev pub places_ahead : Numbers → ℕ → ℕ → Bool → List ℕ → ℕ 
 places_ahead numbers interval frames flushed keys commands =
     places_from commands (settled_places numbers interval frames flushed keys)
 
--- what at least `wanted` temporal units are guessed to have, where `commands` were coded
+-- what the next `wanted` temporal units are guessed to have, where `commands` were coded
 abbrev pub guess : Numbers → ℕ → ℕ → Bool → List ℕ → ℕ → ℕ → GuessedAhead
 guess numbers interval frames flushed keys commands wanted =
     let places = places_ahead numbers interval frames flushed keys commands in

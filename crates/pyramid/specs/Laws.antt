@@ -11,7 +11,9 @@ use Rattle.pyramid.specs.declared.command.Command.{Command}
 use Rattle.pyramid.specs.declared.command.Command.TheVariants.{Code, Show}
 use Rattle.pyramid.specs.Begins.{Begins}
 use Rattle.pyramid.specs.Display.{Slots, empty_slots, held, names_full, first_empty, first_refused, accepts, slots_after, shown, showing, hiding, codes}
+use Rattle.pyramid.specs.declared.place.Place.{Place}
 use Rattle.pyramid.specs.Gop.{gop}
+use Rattle.pyramid.specs.Guess.{whole_walk}
 use Rattle.pyramid.specs.MidGop.{AllHold, before_row}
 use Rattle.pyramid.specs.Moved.{moved, plan_of_moved}
 use Rattle.pyramid.specs.NamedPositions.{last_key, NamesRight, SwitchesInOrder}
@@ -179,6 +181,12 @@ PlacesFollowTheTable = (numbers : Numbers) (start length number index : ℕ) →
       shown = row.shown;
       show_existing = row.existing;
     }
+
+-- the walk of a guess ends because it has met the wanted temporal units, and never for want of steps
+abbrev pub GuessesReachTheirUnits : Type 0
+GuessesReachTheirUnits =
+    (numbers : Numbers) (interval : ℕ) (keys : List ℕ) (places : List Place) (wanted : ℕ) →
+    HasTable numbers.depth → (whole_walk numbers interval keys places wanted).tus ≡ wanted
 
 -- the slots after two lists of commands, one behind the other
 abbrev pub SlotsAfterBoth : Type 0

@@ -1,5 +1,5 @@
 -- The words of a plan, in the order in which they are best read: Numbers, Levels, Rows, Positions, RowCommand, Gop, Plan;
--- Known; Places, which Building builds for Schedules; Display, Playable and NamedPositions; the laws
+-- Known; Places, which Building builds for Schedules; Guess over them, with WalkBounds; Display, Playable and NamedPositions; the laws
 -- over both in Laws, with MidGop and Moved. Settings gives the numbers.
 pub mod AreSlots
 pub mod Begins
@@ -23,3 +23,4 @@ pub mod RowCommand
 pub mod Rows
 pub mod Schedules
 pub mod Settings
+pub mod WalkBounds

@@ -2,7 +2,7 @@
 use Rattle.std.specs.Prelude.{◌≡◌, ℕ, ◌≤◌, Bool, false, List, length, drop}
 use Rattle.std.specs.List.{count_by}
 use Rattle.pyramid.specs.declared.schedule.Schedule.{Schedule}
-use Rattle.pyramid.specs.Building.{opening_spot, due_to, next_of, Walk, AreKeysFrom}
+use Rattle.pyramid.specs.Building.{opening_spot, due_to, kept_from, next_of, Walk, AreKeysFrom}
 use Rattle.pyramid.specs.Known.{is_coding}
 use Rattle.pyramid.specs.Numbers.{Numbers}
 use Rattle.pyramid.specs.Places.{PlacedUnit, commands_at, places_from, places_of, settled_places, settled_commands}
@@ -16,7 +16,8 @@ pub record IsBuilt (numbers : Numbers) (interval frames : ℕ) (flushed : Bool) 
       due_to numbers frames flushed next schedule.spot ≡ false
   pub places : schedule.places.items ≡ places_from commands (places_of units)
   pub within : commands ≤ length (commands_at (places_of units))
-  pub keys_left : AreKeysFrom schedule.spot.start schedule.keys.items keys
+  pub keys_left : AreKeysFrom (kept_from schedule.places.items schedule.spot.start)
+      schedule.keys.items keys
 
 -- a schedule where `frames` are accepted, `keys` are decided and `commands` were coded: it holds the known places from that
 -- of the next command on, and the count of the frames that they code

@@ -188,22 +188,24 @@ impl InterConfig {
         ensures count { length result.now ≡ group_places self.now }
         ensures few { length result.now ≤ 20 }
         ensures each { AllPass (is_row self.now.depth) result.now }
+        ensures table { HasTable self.now.depth }
     {
         rows(self.depth)
     }
 
     // The row of an index.
-    fn row(&self, index: u64) -> &'static Row
+    pub(crate) fn row(&self, index: u64) -> &'static Row
         requires { index < group_places self.now }
         ensures value { result.now ≡ row_at self.now.depth index }
         ensures right { IsTrue (is_row self.now.depth result.now) }
+        ensures table { HasTable self.now.depth }
     {
         &self.rows()[index as usize]
     }
 
     // The position of a row of a group.
     pub(crate) fn row_position(&self, group: u64, row: &Row) -> u64
-        requires group { group ≤ 2 ^ 32 }
+        requires group { group ≤ 2 ^ 52 }
         requires row { IsTrue (is_row self.now.depth row.now) }
         ensures { result ≡ row_position self.now group row.now }
     {

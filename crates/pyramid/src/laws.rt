@@ -1,7 +1,7 @@
 //! What holds of GOPs and plans, each law as the contract of a function that does nothing; `specs/Laws` spells them out.
 //! They hold at every depth that has a place table.
 
-ghost use Rattle.pyramid.specs.Laws.{GopReplays, PlanIsPlayable, HeldIsCoded, GopIsMoved, PlanIsMoved, SlotsAreOfTheGop, ShowCommandsShowTheirPositions, GopHides, SettingsHaveATable, ReferencesNamePositions, SettingsSwitchInOrder, FirstEmptyIsNamed, FirstRefusedIsFirst, UnitsMakeThePlan, KnownBeginsThePlan, KnownStays, KnownBeginsLaterPlans, StartsRise, PlacesHaveTheCommands, PlacesFollowTheTable, SlotsAfterBoth, AcceptsBoth, ShownByBoth, ShowingBoth};
+ghost use Rattle.pyramid.specs.Laws.{GopReplays, PlanIsPlayable, HeldIsCoded, GopIsMoved, PlanIsMoved, SlotsAreOfTheGop, ShowCommandsShowTheirPositions, GopHides, SettingsHaveATable, ReferencesNamePositions, SettingsSwitchInOrder, FirstEmptyIsNamed, FirstRefusedIsFirst, UnitsMakeThePlan, KnownBeginsThePlan, KnownStays, KnownBeginsLaterPlans, StartsRise, PlacesHaveTheCommands, PlacesFollowTheTable, GuessesReachTheirUnits, SlotsAfterBoth, AcceptsBoth, ShownByBoth, ShowingBoth};
 
 /// Replayed from any eight slots, full or empty, a GOP names no empty slot, and shows its inputs in order, each once.
 pub fn gop_replays()
@@ -84,6 +84,11 @@ pub fn known_stays()
 pub fn places_are_numbered()
     ensures commands { PlacesHaveTheCommands }
     ensures table { PlacesFollowTheTable }
+{}
+
+/// The walk of a guess ends because it has met the wanted temporal units: its steps suffice, whatever is known.
+pub fn guesses_reach_their_units()
+    ensures { GuessesReachTheirUnits }
 {}
 
 /// Two lists of commands, one behind the other: the slots after both, whether both are accepted, what both show.

@@ -5,6 +5,8 @@
 
 mod command;
 mod guess;
+#[cfg(test)]
+mod guess_tests;
 mod inter_config;
 pub mod laws;
 mod named;

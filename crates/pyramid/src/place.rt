@@ -1,5 +1,6 @@
 ghost use Rattle.std.specs.Prelude.{◌≡◌, ◌+◌, ◌^◌, ◌≤◌, IsTrue, false, if◌then◌else◌};
 ghost use Rattle.std.specs.Option.{option_map_or};
+ghost use Rattle.pyramid.specs.Building.{is_near};
 ghost use Rattle.pyramid.specs.Known.{is_coding};
 ghost use Rattle.pyramid.specs.Places.{place_row, key_place, row_place};
 ghost use Rattle.pyramid.specs.Positions.{index_of, position_of};
@@ -54,7 +55,9 @@ impl InterConfig {
 
 // The place of a key.
 pub(crate) fn key_place(start: u64) -> Place
-    ensures { result ≡ key_place start }
+    requires start { start ≤ 2 ^ 31 }
+    ensures value { result ≡ key_place start }
+    ensures near { IsTrue (is_near result) }
 {
     Place {
         start,
@@ -68,7 +71,8 @@ pub(crate) fn row_place(cfg: &InterConfig, start: u64, length: u64, number: u64,
     requires row { IsTrue (is_row cfg.now.depth row.now) }
     requires number { number ≤ 2 ^ 32 }
     requires end { start + length ≤ 2 ^ 31 }
-    ensures { result ≡ row_place cfg.now start length number row.now }
+    ensures value { result ≡ row_place cfg.now start length number row.now }
+    ensures near { IsTrue (is_near result) }
 {
     Place {
         start,

@@ -1,10 +1,10 @@
 //! What of a plan is known, place by place, from the next command on.
 
 ghost use Rattle.std.specs.Prelude.{◌≡◌, ℕ, ◌+◌, ◌-◌, ◌*◌, ◌^◌, ◌≤◌, ◌<◌, Bool, true, false, List, [], ◌∷◌, ◌++◌, drop, length, map, IsTrue, OnOk};
-ghost use Rattle.std.specs.List.{slice_get};
-ghost use Rattle.pyramid.specs.Building.{group_left, unit_left, needs_at, unit_to, spot_to, due_to, next_of, AreKeysFrom, Builds, begins_with_command, coding_count, steps_left};
+ghost use Rattle.std.specs.List.{slice_get, list_all};
+ghost use Rattle.pyramid.specs.Building.{group_left, unit_left, needs_at, unit_to, spot_to, due_to, next_of, AreKeysFrom, Builds, begins_with_command, coding_count, is_near, kept_from, passed_keys, steps_left};
 ghost use Rattle.pyramid.specs.Places.{places_from, row_place};
-ghost use Rattle.pyramid.specs.Plan.{first_or, key_above};
+ghost use Rattle.pyramid.specs.Plan.{key_above};
 ghost use Rattle.pyramid.specs.Rows.{rows, HasTable};
 
 use crate::place::{Place, coding, key_place, row_place};
@@ -28,8 +28,10 @@ pub struct Schedule {
     pub(crate) interval: u64,
     // Where building goes on.
     pub(crate) spot: Spot,
-    // The keys that are decided, from the first one above the GOP's start on.
+    // The keys that are decided, from the first one above the start of the first place's GOP on.
     pub(crate) keys: VecDeque<u64>,
+    // How many of them, from the first on, aren't above the start of the last key that was built.
+    pub(crate) passed: usize,
     // The built places from that of the next command on.
     pub(crate) places: VecDeque<Place>,
     // How many of them code a frame.
@@ -38,7 +40,8 @@ pub struct Schedule {
     ghost some: { 1 ≤ interval },
     ghost start: { spot.start ≤ 2 ^ 31 },
     ghost number: { spot.number ≤ 2 ^ 31 },
-    ghost above: { spot.start < first_or (spot.start + 1) keys.items },
+    ghost passing: { passed ≡ passed_keys spot.start keys.items },
+    ghost near: { IsTrue (list_all is_near places.items) },
     ghost counted: { coded ≡ coding_count places.items },
     ghost ready: { IsTrue (begins_with_command places.items) },
 }
@@ -65,6 +68,7 @@ impl Schedule {
                 number: 0,
             },
             keys: VecDeque::new(alloc),
+            passed: 0,
             places: VecDeque::new(alloc),
             coded: 0,
         }
@@ -79,8 +83,9 @@ impl Schedule {
             IsSchedule numbers interval frames false keys commands self.old →
             IsSchedule numbers interval frames false (keys ++ position ∷ []) commands self.new) }
     {
-        if position > self.spot.start {
+        if position > self.kept_from() {
             self.keys.push_back(position)?;
+            self.passed = passed_keys(&self.keys, self.passed, self.spot.start);
         }
         Ok(())
     }
@@ -143,6 +148,7 @@ impl Schedule {
     {
         let less = drop_first(&mut self.places);
         self.coded -= less;
+        self.drop_keys();
     }
 
     /// How many of the known commands, from the next on, code a frame.
@@ -202,10 +208,37 @@ impl Schedule {
 
 impl Schedule {
     // The first place that is held.
-    fn first(&self) -> Option<Place>
+    pub(crate) fn first(&self) -> Option<Place>
         ensures { result ≡ slice_get self.now.places.items 0 }
     {
         self.places.front().copied()
+    }
+
+    // The start of the first place's GOP, and of the last key that was built where no place is held: the keys above it
+    // are kept.
+    fn kept_from(&self) -> u64
+        ensures { result ≡ kept_from self.now.places.items self.now.spot.start }
+    {
+        match self.first() {
+            Some(place) => place.start,
+            None => self.spot.start,
+        }
+    }
+
+    // Drops the keys that aren't kept any more.
+    fn drop_keys(&mut self)
+        ensures cfg { self.new.cfg ≡ self.old.cfg }
+        ensures interval { self.new.interval ≡ self.old.interval }
+        ensures spot { self.new.spot ≡ self.old.spot }
+        ensures places { self.new.places.items ≡ self.old.places.items }
+        ensures keys { AreKeysFrom (kept_from self.old.places.items self.old.spot.start)
+            self.new.keys.items self.old.keys.items }
+    {
+        let from = self.kept_from();
+        while self.passed > 0 && self.keys[0] <= from {
+            self.keys.pop_front();
+            self.passed -= 1;
+        }
     }
 
     // The first kept key above `start`, or `limit`.
@@ -229,9 +262,7 @@ impl Schedule {
             AreKeysFrom self.old.spot.start self.old.keys.items keys →
             Builds self.old.cfg self.old.interval frames flushed keys self.old.spot self.new.spot
             self.old.places.items self.new.places.items) }
-        ensures keys { OnOk result ((keys : List ℕ) →
-            AreKeysFrom self.old.spot.start self.old.keys.items keys →
-            AreKeysFrom self.new.spot.start self.new.keys.items keys) }
+        ensures keys { OnOk result (self.new.keys.items ≡ self.old.keys.items) }
         ensures ended { OnOk result (
             due_to self.new.cfg frames flushed
             (next_of self.new.interval frames self.new.keys.items self.new.spot)
@@ -295,11 +326,26 @@ impl Schedule {
         ensures later { self.now.spot.start < result }
         ensures within { result ≤ frames }
     {
-        let key = match self.keys.front() {
-            Some(key) => *key,
-            None => frames,
-        };
+        let key = self.next_key(frames);
         key.min(self.spot.start.saturating_add(self.interval).min(frames))
+    }
+
+    // The first key above the start of the last key that was built, or `limit`.
+    fn next_key(&self, limit: u64) -> u64
+        ensures value { result ≡ key_above limit self.now.keys.items self.now.spot.start }
+        ensures later { self.now.spot.start < limit → self.now.spot.start < result }
+    {
+        match self.kept_key(self.passed) {
+            Some(key) => key,
+            None => limit,
+        }
+    }
+
+    // A kept key.
+    fn kept_key(&self, index: usize) -> Option<u64>
+        ensures { result ≡ slice_get self.now.keys.items index }
+    {
+        self.keys.get(index).copied()
     }
 
     // Builds the next unit.
@@ -315,8 +361,7 @@ impl Schedule {
             self.old.spot).places)) }
         ensures spot { OnOk result (self.new.spot ≡ spot_to self.old.cfg
             (next_of self.old.interval frames self.old.keys.items self.old.spot) self.old.spot) }
-        ensures keys { OnOk result
-            (AreKeysFrom self.new.spot.start self.new.keys.items self.old.keys.items) }
+        ensures keys { OnOk result (self.new.keys.items ≡ self.old.keys.items) }
         ensures later { OnOk result (self.old.spot.start ≤ self.new.spot.start) }
         ensures nearer { OnOk result
             (steps_left frames self.new.spot < steps_left frames self.old.spot) }
@@ -333,7 +378,7 @@ impl Schedule {
             return Ok(());
         }
         self.push_place(key_place(next))?;
-        drop_keys(&mut self.keys, next);
+        self.passed = passed_keys(&self.keys, self.passed, next);
         self.spot.start = next;
         self.spot.number = 0;
         Ok(())
@@ -363,6 +408,7 @@ impl Schedule {
 
     // Puts a place at the end, unless it is cut and would be the first.
     fn push_place(&mut self, place: Place) -> Result<(), OutOfMemory>
+        requires near { IsTrue (is_near place) }
         ensures cfg { self.new.cfg ≡ self.old.cfg }
         ensures interval { self.new.interval ≡ self.old.interval }
         ensures spot { self.new.spot ≡ self.old.spot }
@@ -380,17 +426,17 @@ impl Schedule {
     }
 }
 
-// Drops the keys up to a start, as far as they stand first.
-fn drop_keys(keys: &mut VecDeque<u64>, start: u64)
-    ensures above { start < first_or (start + 1) keys.new.items }
-    ensures left { AreKeysFrom start keys.new.items keys.old.items }
+// How many keys, from the first on, aren't above `start`, where at least `passed` are so.
+fn passed_keys(keys: &VecDeque<u64>, passed: usize, start: u64) -> usize
+    requires { passed ≤ passed_keys start keys.now.items }
+    ensures { result ≡ passed_keys start keys.now.items }
 {
-    while let Some(key) = keys.front().copied() {
-        if key > start {
-            return;
+    for i in passed..keys.len() {
+        if keys[i] > start {
+            return i;
         }
-        keys.pop_front();
     }
+    keys.len()
 }
 
 // Drops the first place, and those behind it that are cut; how many of them code a frame.

@@ -2,7 +2,7 @@ use Rattle.std.proofs.Common.{◌+◌, ◌^◌, length, sym, ap, ◌∙◌, subs
 use Rattle.std.specs.List.{AllPass}
 use Rattle.std.proofs.lemmas.List.Sums.{AllPass-from_list_all}
 use Rattle.pyramid.specs.Numbers.{Numbers}
-use Rattle.pyramid.specs.Rows.{rows, is_row}
+use Rattle.pyramid.specs.Rows.{rows, is_row, HasTable}
 use Rattle.pyramid.proofs.DepthFacts.{shallow, few_inputs}
 use Rattle.pyramid.proofs.Tables.{table}
 use Rattle.pyramid.proofs.inter_config.InterConfig.rows.Goals as goal
@@ -26,3 +26,6 @@ returns-clause-few c =
     let depth = c.self.inside.depth in
     let small = shallow depth c.self.invariant in
     omega (arith, ap length c.rows.ensures, (table depth c.self.invariant).size, small, few_inputs depth small)
+
+pub returns-clause-table : goal.returns-clause-table
+returns-clause-table c = subst (λ n. HasTable n.depth) c.self.view_is c.self.invariant

@@ -14,5 +14,5 @@ loop-row-preserved c =
       spot = e.spot ∙ i.spot;
       keys = ◌∙◌ {A = List ℕ} e.keys i.keys;
       places = from-row (row_place s.cfg s.spot.start (c.args.next - s.spot.start) s.spot.number) c.rows-row-items.result.now c.loop-row.row-index _ c.row_place.result
-          s.places.items c.loop-row.self.places.items c.push_place.new.self.places.items c.loop-row-test.true c.row_place.ensures i.places e.places;
+          s.places.items c.loop-row.self.places.items c.push_place.new.self.places.items c.loop-row-test.true c.row_place.ensures.value i.places e.places;
     }
