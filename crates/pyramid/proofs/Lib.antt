@@ -6,6 +6,7 @@ pub mod Machine
 pub mod Bits
 pub mod Tables
 pub mod LevelLemmas
+pub mod Subtyped
 pub mod DepthFacts
 pub mod RowReplay
 pub mod GroupCount

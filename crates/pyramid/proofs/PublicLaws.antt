@@ -3,7 +3,7 @@ use Rattle.std.proofs.Common.{ℕ, take}
 use Rattle.std.proofs.lemmas.Option.{slice_get_within, get_or_from_slice_get}
 use Rattle.pyramid.specs.declared.command.Command.TheVariants.{Show}
 use Rattle.pyramid.specs.Display.{empty_slots, shows, showing}
-use Rattle.pyramid.specs.Laws.{GopReplays, PlanIsPlayable, HeldIsCoded, GopIsMoved, PlanIsMoved, SlotsAreOfTheGop, ShowCommandsShowTheirPositions, GopHides, StartsRise, SlotsAfterBoth, AcceptsBoth, ShownByBoth, ShowingBoth, SettingsHaveATable, FirstEmptyIsNamed, FirstRefusedIsFirst, ReferencesNamePositions, SettingsSwitchInOrder, UnitsMakeThePlan, KnownBeginsThePlan, KnownStays, KnownBeginsLaterPlans, PlacesHaveTheCommands, PlacesFollowTheTable, GuessesReachTheirUnits}
+use Rattle.pyramid.specs.Laws.{GopReplays, PlanIsPlayable, HeldIsCoded, GopIsMoved, PlanIsMoved, SlotsAreOfTheGop, ShowCommandsShowTheirPositions, GopHides, StartsRise, SlotsAfterBoth, AcceptsBoth, ShownByBoth, ShowingBoth, SettingsHaveATable, SubtypesFollowLevels, FirstEmptyIsNamed, FirstRefusedIsFirst, ReferencesNamePositions, SettingsSwitchInOrder, UnitsMakeThePlan, KnownBeginsThePlan, KnownStays, KnownBeginsLaterPlans, PlacesHaveTheCommands, PlacesFollowTheTable, GuessesReachTheirUnits}
 use Rattle.pyramid.specs.Plan.{plan}
 use Rattle.pyramid.specs.Playable.{InOrder}
 use Rattle.pyramid.proofs.Below.{plan-below}
@@ -23,6 +23,7 @@ use Rattle.pyramid.proofs.PlanSteps.{start_after-later, start_after-within}
 use Rattle.pyramid.proofs.Refusals.{first-empty, first-refused}
 use Rattle.pyramid.proofs.Replay.{gop-replays}
 use Rattle.pyramid.proofs.ShowExisting.{shows-its-position}
+use Rattle.pyramid.proofs.Subtyped.{subtype-of_row}
 use Rattle.pyramid.proofs.Tables.{settings-table}
 use Rattle.pyramid.proofs.Unshown.{next-unshown}
 
@@ -118,3 +119,6 @@ first_empty_is_named = first-empty
 
 pub first_refused_is_first : FirstRefusedIsFirst
 first_refused_is_first = first-refused
+
+pub subtypes_follow_levels : SubtypesFollowLevels
+subtypes_follow_levels = subtype-of_row

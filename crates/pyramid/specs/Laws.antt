@@ -2,13 +2,14 @@
 --
 -- `gop` and `plan` are the definitions that the contract of the call `plan` cites. The display machine has eight slots,
 -- each empty or holding the number of a frame.
-use Rattle.std.specs.Prelude.{ℕ, Bool, not, is_some, ◌≡◌, ◌+◌, ◌-◌, ◌/◌, ◌<◌, ◌≤◌, ◌&&◌, IsTrue, List, ◌∷◌, ◌++◌, length, map, take, Some}
+use Rattle.std.specs.Prelude.{ℕ, Bool, not, is_some, ◌≡◌, ◌+◌, ◌-◌, ◌/◌, ◌<◌, ◌≤◌, ◌&&◌, IsTrue, if◌then◌else◌, List, ◌∷◌, ◌++◌, length, map, take, Some}
 use Rattle.std.specs.List.{list_any, flat_map, slice_get}
 use Rattle.av1_settings.specs.declared.encoder.EncoderConfig.{EncoderConfig}
 use Rattle.av1_settings.specs.declared.frame_type.FrameType.{FrameType}
 use Rattle.av1_settings.specs.declared.frame_type.FrameType.TheVariants.{KEY}
 use Rattle.pyramid.specs.declared.command.Command.{Command}
 use Rattle.pyramid.specs.declared.command.Command.TheVariants.{Code, Show}
+use Rattle.pyramid.specs.declared.rows.Row.{Row}
 use Rattle.pyramid.specs.Begins.{Begins}
 use Rattle.pyramid.specs.Display.{Slots, empty_slots, held, names_full, first_empty, first_refused, accepts, slots_after, shown, showing, hiding, codes}
 use Rattle.pyramid.specs.declared.place.Place.{Place}
@@ -25,7 +26,9 @@ use Rattle.pyramid.specs.Places.{place_row, row_place, commands_at, settled_plac
 use Rattle.pyramid.specs.Plan.{start_after, plan}
 use Rattle.pyramid.specs.Playable.{InOrder, IsPlayable}
 use Rattle.pyramid.specs.Settings.{numbers_of}
-use Rattle.pyramid.specs.Rows.{HasTable, rows, row_at}
+use Rattle.pyramid.specs.RowCommand.{command_of}
+use Rattle.pyramid.specs.Rows.{HasTable, rows, row_at, is_row}
+use Rattle.pyramid.specs.Subtypes.{subtype_of}
 
 -- replayed from any eight slots, full or empty, a GOP names no empty slot, and shows its inputs in order, each once
 abbrev pub GopReplays : Type 0
@@ -118,6 +121,13 @@ FirstEmptyIsNamed = (slots : Slots) (command : Command) →
 abbrev pub FirstRefusedIsFirst : Type 0
 FirstRefusedIsFirst = (slots : Slots) (commands : List Command) →
     accepts slots commands ≡ not (is_some (first_refused slots commands))
+
+-- the subtype of a row's command is that of its level, or 4 where the row shows what a slot holds
+abbrev pub SubtypesFollowLevels : Type 0
+SubtypesFollowLevels = (numbers : Numbers) (start number : ℕ) (row : Row) →
+    HasTable numbers.depth →
+    IsTrue (is_row numbers.depth row) →
+    subtype_of (command_of numbers start number row) ≡ (if row.existing then 4 else row.level + 1)
 
 -- settings give a depth that has a table
 abbrev pub SettingsHaveATable : Type 0

@@ -1,6 +1,6 @@
 -- The words of a plan, in the order in which they are best read: Numbers, Levels, Rows, Positions, RowCommand, Gop, Plan;
 -- Known; Places, which Building builds for Schedules; Guess over them, with WalkBounds; Display, Playable and NamedPositions; the laws
--- over both in Laws, with MidGop and Moved. Settings gives the numbers.
+-- over both in Laws, with MidGop and Moved. Subtypes has what rate control keeps apart. Settings gives the numbers.
 pub mod AreSlots
 pub mod Begins
 pub mod Building
@@ -23,4 +23,5 @@ pub mod RowCommand
 pub mod Rows
 pub mod Schedules
 pub mod Settings
+pub mod Subtypes
 pub mod WalkBounds

@@ -1,3 +1,6 @@
+ghost use Rattle.std.specs.Prelude.{◌≡◌};
+ghost use Rattle.pyramid.specs.Subtypes.{subtype_of};
+
 use crate::Refs;
 use av1_settings::FrameType;
 
@@ -22,4 +25,23 @@ pub enum Command {
         /// The slot, 0 to 7.
         slot: u8,
     },
+}
+
+impl Command {
+    /// What rate control keeps apart (rav1e's frame subtypes): 0 for a key frame, for any other coded frame 1 more than its
+    /// pyramid level, and 4 for the show of a slot. The level is that of the slot which the frame refreshes.
+    pub fn subtype(&self) -> usize
+        ensures { result ≡ subtype_of self.now }
+    {
+        match self {
+            Command::Show { .. } => 4,
+            Command::Code {
+                kind: FrameType::KEY,
+                ..
+            } => 0,
+            Command::Code { refresh: 16, .. } => 2,
+            Command::Code { refresh: 32, .. } => 3,
+            Command::Code { .. } => 1,
+        }
+    }
 }

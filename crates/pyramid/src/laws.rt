@@ -1,7 +1,7 @@
 //! What holds of GOPs and plans, each law as the contract of a function that does nothing; `specs/Laws` spells them out.
 //! They hold at every depth that has a place table.
 
-ghost use Rattle.pyramid.specs.Laws.{GopReplays, PlanIsPlayable, HeldIsCoded, GopIsMoved, PlanIsMoved, SlotsAreOfTheGop, ShowCommandsShowTheirPositions, GopHides, SettingsHaveATable, ReferencesNamePositions, SettingsSwitchInOrder, FirstEmptyIsNamed, FirstRefusedIsFirst, UnitsMakeThePlan, KnownBeginsThePlan, KnownStays, KnownBeginsLaterPlans, StartsRise, PlacesHaveTheCommands, PlacesFollowTheTable, GuessesReachTheirUnits, SlotsAfterBoth, AcceptsBoth, ShownByBoth, ShowingBoth};
+ghost use Rattle.pyramid.specs.Laws.{GopReplays, PlanIsPlayable, HeldIsCoded, GopIsMoved, PlanIsMoved, SlotsAreOfTheGop, ShowCommandsShowTheirPositions, GopHides, SettingsHaveATable, SubtypesFollowLevels, ReferencesNamePositions, SettingsSwitchInOrder, FirstEmptyIsNamed, FirstRefusedIsFirst, UnitsMakeThePlan, KnownBeginsThePlan, KnownStays, KnownBeginsLaterPlans, StartsRise, PlacesHaveTheCommands, PlacesFollowTheTable, GuessesReachTheirUnits, SlotsAfterBoth, AcceptsBoth, ShownByBoth, ShowingBoth};
 
 /// Replayed from any eight slots, full or empty, a GOP names no empty slot, and shows its inputs in order, each once.
 pub fn gop_replays()
@@ -52,6 +52,11 @@ pub fn references_name_positions()
 pub fn settings_have_a_table()
     ensures table { SettingsHaveATable }
     ensures switches { SettingsSwitchInOrder }
+{}
+
+/// The subtype of a frame's command is 1 more than the frame's level.
+pub fn subtypes_follow_levels()
+    ensures { SubtypesFollowLevels }
 {}
 
 /// A command names only full slots exactly where none is the first empty one that it names, and commands are accepted
