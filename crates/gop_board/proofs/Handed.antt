@@ -12,7 +12,7 @@ use Rattle.crossbeam_queue.specs.Fifo.{Pushes, Pops, Forks, Merges, Learns}
 use Rattle.crossbeam_queue.proofs.Lists.{at_set, at_snoc}
 use Rattle.gop_board.proofs.Counts.{one_if}
 use Rattle.gop_board.specs.declared.job_queue.Part.{Part}
-use Rattle.gop_board.specs.Handing.{IsAlone, IsGiven, IsHeld, IsPart, InOrder, first_part, given, joined_with, other_part, popped_one, pushed_one, spent_part, times}
+use Rattle.gop_board.specs.Handing.{IsAlone, IsGiven, IsHeld, IsPart, InOrder, Only, first_part, given, joined_with, other_part, popped_one, pushed_one, spent_part, times}
 
 -- ---- 0, 1, .. in order
 
@@ -131,10 +131,6 @@ each-set : (F : ℕ → Part → Type 0) (parts : List Part) (seat : ℕ) (w : P
 each-set F parts seat w mine others j u at =
     ⊎_elim (λ (x : (j ≡ seat) × (w ≡ u)). subst (λ (y : ℕ × Part). F y.0 y.1) (λ i. (sym x.0 i, x.1 i)) mine)
     (λ (x : (j ≢ seat) × (get_elem? parts j ≡ some u)). others j u x.0 x.1) (at_set parts seat j w u at)
-
--- no pass but this one isn't gone
-abbrev Only : List Part → ℕ → Type 0
-Only parts seat = (other : ℕ) (view : Part) → get_elem? parts other ≡ some view → view.live ≡ true → other ≡ seat
 
 only-set : (parts : List Part) (at : ℕ) (v w : Part) → get_elem? parts at ≡ some v → (w.live ≡ true → v.live ≡ true) →
     (seat : ℕ) → Only parts seat → Only (set parts at w) seat

@@ -193,7 +193,7 @@ pub record IsSplitTo {T : Type 0} (enc : EncoderConfig) (frames : List (Frame T)
   pub count : frames_in ended + length last.frames ≡ position
   pub rising : All (λ start. start < last.first) (starts_of ended)
   pub asked : Grew before.questions now.questions (map (question enc frames (starts_with ended last)) (range_with_len 1 (position - 1)))
-  pub ahead_of : IfSome before.answers (λ at. (k : ℕ) → 0 < k → k < position → is_start (starts_with ended last) k ≡ at k)
+  pub told_ahead : IfSome before.answers (λ at. (k : ℕ) → 0 < k → k < position → is_start (starts_with ended last) k ≡ at k)
   pub later : IsDetectorLater before now
 
 -- all starts are before the position
@@ -231,7 +231,7 @@ split-first enc frames last a number first one joined = record {
   count = omega (arith, one);
   rising = All-nil (λ start. start < last.first);
   asked = grew-none a.questions;
-  ahead_of = if-some-both a.answers (λ _. Unit {0}) (λ _. Unit {0}) (λ at. (k : ℕ) → 0 < k → k < 1 → is_start (last.first ∷ []) k ≡ at k)
+  told_ahead = if-some-both a.answers (λ _. Unit {0}) (λ _. Unit {0}) (λ at. (k : ℕ) → 0 < k → k < 1 → is_start (last.first ∷ []) k ≡ at k)
       (if-some-any a.answers) (if-some-any a.answers) (λ at _ _ k some less. absurd (omega arith));
   later = later-none a;
 }
@@ -244,7 +244,7 @@ split-first enc frames last a number first one joined = record {
 pub record IsAskedAt {T : Type 0} (enc : EncoderConfig) (frames : List (Frame T)) (position start : ℕ) (answer : Bool) (before after : DetectorTold T) : Type 0 where
   pub asked : Grew before.questions after.questions
       (told_ask enc.speed_settings.scene_detection_mode (frames_near enc frames position) position start answer ∷ [])
-  pub ahead_of : IfSome before.answers (λ at. answer ≡ at position)
+  pub told_ahead : IfSome before.answers (λ at. answer ≡ at position)
   pub later : IsDetectorLater before after
 
 module _ {T : Type 0} (enc : EncoderConfig) (frames : List (Frame T)) (ended : List (Job T)) (last : Job T) (position : ℕ) (a b c : DetectorTold T) where
@@ -269,7 +269,7 @@ module _ {T : Type 0} (enc : EncoderConfig) (frames : List (Frame T)) (ended : L
             so.asked (subst (λ (q : Asked T). Grew b.questions c.questions (q ∷ [])) (sym asks) told.asked),
         if-some-both a.answers (λ at. (k : ℕ) → 0 < k → k < position → is_start (starts_with ended last) k ≡ at k) (λ at. answer ≡ at position)
             (λ at. (k : ℕ) → 0 < k → k < position + 1 → is_start starts k ≡ at k)
-            so.ahead_of (subst (λ (o : Option (ℕ → Bool)). IfSome o (λ at. answer ≡ at position)) so.later.answers told.ahead_of)
+            so.told_ahead (subst (λ (o : Option (ℕ → Bool)). IfSome o (λ at. answer ≡ at position)) so.later.answers told.told_ahead)
             (λ at before now. ahead-next (starts_with ended last) starts position answer at same here now before),
       )
 
@@ -296,7 +296,7 @@ module _ {T : Type 0} (enc : EncoderConfig) (frames : List (Frame T)) (ended : L
         count = omega (arith, count, so.count);
         rising = subst (λ (k : ℕ). All (λ start. start < k) (starts_of ended)) (sym first) so.rising;
         asked = subst (λ (l : List ℕ). Grew a.questions c.questions (map (question enc frames l) (range_with_len 1 (position + 1 - 1)))) (sym same) next.0;
-        ahead_of = subst (λ (l : List ℕ). IfSome a.answers (λ at. (k : ℕ) → 0 < k → k < position + 1 → is_start l k ≡ at k)) (sym same) next.1;
+        told_ahead = subst (λ (l : List ℕ). IfSome a.answers (λ at. (k : ℕ) → 0 < k → k < position + 1 → is_start l k ≡ at k)) (sym same) next.1;
         later = later-then a b c so.later told.later;
       }
 
@@ -330,7 +330,7 @@ module _ {T : Type 0} (enc : EncoderConfig) (frames : List (Frame T)) (ended : L
             subst (λ (l : List ℕ). All (λ start. start < next.first) l) (sym ends)
             (subst (λ (k : ℕ). All (λ start. start < k) starts) (sym first) all);
         asked = subst (λ (l : List ℕ). Grew a.questions c.questions (map (question enc frames l) (range_with_len 1 (position + 1 - 1)))) (sym same) after.0;
-        ahead_of = subst (λ (l : List ℕ). IfSome a.answers (λ at. (k : ℕ) → 0 < k → k < position + 1 → is_start l k ≡ at k)) (sym same) after.1;
+        told_ahead = subst (λ (l : List ℕ). IfSome a.answers (λ at. (k : ℕ) → 0 < k → k < position + 1 → is_start l k ≡ at k)) (sym same) after.1;
         later = later-then a b c so.later told.later;
       }
 
@@ -349,9 +349,9 @@ split-end {T} enc frames ended last position a b so all =
       asked =
           subst (λ (l : List ℕ). Grew a.questions b.questions (map (question enc frames l) (range_with_len 1 (length frames - 1)))) (sym ends)
           (subst (λ (n : ℕ). Grew a.questions b.questions (map (question enc frames (starts_with ended last)) (range_with_len 1 (n - 1)))) all so.asked);
-      ahead_of =
+      told_ahead =
           subst (λ (l : List ℕ). IfSome a.answers (λ at. (k : ℕ) → 0 < k → k < length frames → is_start l k ≡ at k)) (sym ends)
-          (subst (λ (n : ℕ). IfSome a.answers (λ at. (k : ℕ) → 0 < k → k < n → is_start (starts_with ended last) k ≡ at k)) all so.ahead_of);
+          (subst (λ (n : ℕ). IfSome a.answers (λ at. (k : ℕ) → 0 < k → k < n → is_start (starts_with ended last) k ≡ at k)) all so.told_ahead);
     }
 
 -- ---- what the code has

@@ -1,4 +1,5 @@
--- How job numbers are handed out: what a pass of the queue did, and the rule over the queue and all passes.
+-- How job numbers are handed out: what a pass of the queue did, and the rule over the queue
+-- and all passes.
 use Rattle.std.specs.Prelude.{ℕ, ◌≡◌, ◌+◌, ◌≤◌, ◌<◌, true, false, nat_lt, if◌then◌else◌, ◌==◌, List, [], ◌∷◌, ◌++◌, length, All, count_by, sum_by, Option, None, Some}
 use Rattle.std.specs.List.{range_with_len}
 use mathlib.Core.Option.{some}
@@ -48,7 +49,9 @@ popped_one part number = record part { popped = part.popped ++ number ∷ [] }
 
 -- the pass after a pop; the count of answers None stops at its last value
 abbrev pub after_pop : Passing → Option ℕ → Passing
-after_pop pass None = record pass { misses = if nat_lt pass.misses last_count then pass.misses + 1 else pass.misses }
+after_pop pass None = record pass {
+  misses = if nat_lt pass.misses last_count then pass.misses + 1 else pass.misses;
+}
 after_pop pass (Some number) = record pass { part = popped_one pass.part number }
 
 -- a pass with what another gave that is joined into it
@@ -67,8 +70,9 @@ pub record IsAlone (part : Part) : Type 0 where
   pub pushes : part.pushes ≡ true
   pub whole : part.was_split ≡ false
 
--- what is known of a number that a pop of this pass gives, from a queue for so many jobs: it is that of a job, and greater than
--- those that it gave before; where the pass makes the pushes it was pushed, and the first pass alone is given 0, 1, ..
+-- what is known of a number that a pop of this pass gives, from a queue for so many jobs: it is
+-- that of a job, and greater than those that it gave before; where the pass makes the pushes it
+-- was pushed, and the first pass alone is given 0, 1, ..
 pub record IsGiven (jobs : ℕ) (part : Part) (number : ℕ) : Type 0 where
   pub below : number < jobs
   pub rises : All (λ earlier. earlier < number) part.popped
@@ -77,17 +81,24 @@ pub record IsGiven (jobs : ℕ) (part : Part) (number : ℕ) : Type 0 where
 
 -- ---- the rule
 
--- one of the passes, where `out` came out of the queue and it holds these items: it knows the number of jobs; if it makes the
--- pushes it is the only one, and made them all; and if besides none was split off from it, it took all that came out
-pub record IsPart (out items : List ℕ) (jobs pusher : ℕ) (parts : List Part) (seat : ℕ) (part : Part) : Type 0 where
+-- no pass but that of this seat isn't gone
+abbrev pub Only : List Part → ℕ → Type 0
+Only parts seat =
+    (other : ℕ) (view : Part) → get_elem? parts other ≡ some view → view.live ≡ true → other ≡ seat
+
+-- one of the passes, where `out` came out of the queue and it holds these items: it knows the
+-- number of jobs; if it makes the pushes it is the only one, and made them all; and if besides
+-- none was split off from it, it took all that came out, and all others are gone
+pub record IsPart (out items : List ℕ) (jobs pusher : ℕ) (parts : List Part) (seat : ℕ)
+    (part : Part) : Type 0 where
   pub jobs_of : part.jobs ≡ jobs
   pub one : part.pushes ≡ true → seat ≡ pusher
   pub all : part.pushes ≡ true → part.pushed ≡ length out + length items
   pub took : IsAlone part → part.popped ≡ out
-  pub only : IsAlone part → (other : ℕ) (view : Part) → get_elem? parts other ≡ some view → view.live ≡ true → other ≡ seat
+  pub only : IsAlone part → Only parts seat
 
--- what came out of the queue, followed by what it holds, is 0, 1, .. in order; what came out was given by the passes, each
--- number as often as it came out
+-- what came out of the queue, followed by what it holds, is 0, 1, .. in order; what came out was
+-- given by the passes, each number as often as it came out
 pub record InOrder (items : List ℕ) (parts : List Part) : Type 0 where
   pub out : List ℕ
   pub jobs : ℕ
@@ -95,11 +106,13 @@ pub record InOrder (items : List ℕ) (parts : List Part) : Type 0 where
   pub order : out ++ items ≡ range_with_len 0 (length out + length items)
   pub within : length out + length items ≤ jobs
   pub once : (number : ℕ) → sum_by (λ part. times number (given part)) parts ≡ times number out
-  pub each : (seat : ℕ) (part : Part) → get_elem? parts seat ≡ some part → part.live ≡ true → IsPart out items jobs pusher parts seat part
+  pub each : (seat : ℕ) (part : Part) → get_elem? parts seat ≡ some part → part.live ≡ true →
+      IsPart out items jobs pusher parts seat part
 
 -- ---- what a pass learns of what its queue holds at one moment
 
--- what came out before is what makes 0, 1, .. with it; all that the pass gave is among that; the first pass alone took it all
+-- what came out before is what makes 0, 1, .. with it; all that the pass gave is among that; if
+-- the pass makes the pushes it made all that came out or is held; the first pass alone took it all
 pub record IsHeld (jobs : ℕ) (part : Part) (items : List ℕ) : Type 0 where
   pub out : List ℕ
   pub order : out ++ items ≡ range_with_len 0 (length out + length items)

@@ -17,7 +17,8 @@ pictures job = map (λ frame. frame.value) job.frames
 abbrev pub frames_in : {T : Type 0} → List (Job T) → ℕ
 frames_in jobs = sum_by (λ job. length job.frames) jobs
 
--- a job at its place: it has that number, begins behind the frames of the jobs before it, and has frames
+-- a job at its place: it has that number, begins behind the frames of the jobs before it, and
+-- has frames
 pub record IsJob {T : Type 0} (jobs : List (Job T)) (place : ℕ) (job : Job T) : Type 0 where
   pub number : job.number ≡ place
   pub first : job.first ≡ frames_in (take place jobs)
@@ -53,14 +54,17 @@ question enc frames starts position =
 
 -- one for each position but 0, in order
 abbrev pub questions : {T : Type 0} → EncoderConfig → List (Frame T) → List ℕ → List (Asked T)
-questions enc frames starts = map (question enc frames starts) (range_with_len 1 (length frames - 1))
+questions enc frames starts =
+    map (question enc frames starts) (range_with_len 1 (length frames - 1))
 
 -- ---- the whole
 
--- frames are split into jobs at 0 and where the detector answers yes; it is asked exactly these questions
-pub record IsSplit {T : Type 0} (enc : EncoderConfig) (frames : List (Frame T)) (jobs : List (Job T)) (before after : DetectorTold T) : Type 0 where
+-- frames are split into jobs at 0 and where the detector answers yes; it is asked exactly these
+-- questions
+pub record IsSplit {T : Type 0} (enc : EncoderConfig) (frames : List (Frame T))
+    (jobs : List (Job T)) (before after : DetectorTold T) : Type 0 where
   pub jobs_are : AreJobs frames jobs
   pub asked : Grew before.questions after.questions (questions enc frames (starts_of jobs))
   -- where the answers are told ahead, jobs start at just these
-  pub ahead_of : IfSome before.answers
-      (λ at. (position : ℕ) → 0 < position → position < length frames → is_start (starts_of jobs) position ≡ at position)
+  pub told_ahead : IfSome before.answers (λ at. (position : ℕ) →
+      0 < position → position < length frames → is_start (starts_of jobs) position ≡ at position)

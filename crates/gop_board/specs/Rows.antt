@@ -2,7 +2,8 @@
 use Rattle.std.specs.Prelude.{ℕ, ◌≡◌, ◌+◌, ◌≤◌, Bool, not, ◌&&◌, nat_lt, if◌then◌else◌, is_none, List, length, replicate, slice_index_or, slice_set, Option, Some, None}
 use Rattle.gop_board.specs.declared.job_result.JobResult.{JobResult}
 
--- for each job its result, where it is there; and how many jobs were collected, whose results are gone
+-- for each job its result, where it is there; and how many jobs were collected, whose results are
+-- gone
 pub record Row (T C : Type 0) : Type 0 where
   pub entries : List (Option (JobResult T C))
   pub collected : ℕ
@@ -39,7 +40,9 @@ without_next row (Some result) = record {
 }
 
 -- a row of so many jobs, in which each result that is there belongs to its job
-pub record IsRowOf {T C : Type 0} (jobs : ℕ) (belongs : ℕ → JobResult T C → Type 0) (row : Row T C) : Type 0 where
+pub record IsRowOf {T C : Type 0} (jobs : ℕ) (belongs : ℕ → JobResult T C → Type 0)
+    (row : Row T C) : Type 0 where
   pub one_each : length row.entries ≡ jobs
   pub collected_of : row.collected ≤ jobs
-  pub each : (job : ℕ) (result : JobResult T C) → entry_at row job ≡ Some result → belongs job result
+  pub each : (job : ℕ) (result : JobResult T C) → entry_at row job ≡ Some result →
+      belongs job result

@@ -37,7 +37,8 @@ impl<T, C, N: Run<T, C>> Model for Board<T, C, N> {
 
     ghost view = { λ b. record { entries = b.entries.items; collected = b.collected } };
 
-    ghost invariant = { λ b. IsRowOf N.jobs N.belongs (record { entries = b.entries.items; collected = b.collected }) };
+    ghost invariant = { λ b. IsRowOf N.jobs N.belongs
+        (record { entries = b.entries.items; collected = b.collected }) };
 }
 
 impl<T: Drop, C: Drop, N: Run<T, C>> Board<T, C, N> {

@@ -107,7 +107,8 @@ impl Outcome<u64, Part> for Takes {
     ghost use Rattle.std.specs.Prelude.{◌≡◌};
     ghost use Rattle.gop_board.specs.Handing.{IsGiven, popped_one};
 
-    ghost then = { λ part number after. (after ≡ popped_one part number) × IsGiven part.jobs part number };
+    ghost then = { λ part number after.
+        (after ≡ popped_one part number) × IsGiven part.jobs part number };
 }
 
 impl Lesson<u64, Part> for Takes {
@@ -128,7 +129,10 @@ impl Model for JobQueue {
 
     ghost Value = { Queue };
 
-    ghost view = { λ q. record { id = q.numbers.table.shared.table_id; jobs = ruled_capacity q.numbers } };
+    ghost view = { λ q. record {
+      id = q.numbers.table.shared.table_id;
+      jobs = ruled_capacity q.numbers;
+    } };
 }
 
 /// What a thread pops and pushes with. Contracts see the queue that it belongs to; whether it makes the pushes, and how many it

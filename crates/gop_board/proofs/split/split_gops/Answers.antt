@@ -26,7 +26,7 @@ loop-position-preserved g c =
     split-seen c.args.cfg.now.enc c.args.frames.items c.deref-in-loop-position.result.now c.loop-position.ended.items c.add.new.ended.items c.loop-position.last c.add.new.last
     c.loop-position.position (g.D.Detector.told c.args.detector.now) (g.D.Detector.told c.loop-position.detector) (g.D.Detector.told c.asks.new.detector)
     c.in_ok-frame.frame c.index.result.now c.in_ok-starts.starts some within c.in_ok-frame.ensures c.index.ensures so c.deref-in-loop-position.ensures.value
-    (record { asked = c.in_ok-starts.ensures.asked; ahead_of = c.in_ok-starts.ensures.ahead; later = c.asks.ensures.later })
+    (record { asked = c.in_ok-starts.ensures.asked; told_ahead = c.in_ok-starts.ensures.ahead; later = c.asks.ensures.later })
     c.in_ok-add.ensures
 
 pub returns-clause-split : goal.returns-clause-split
