@@ -11,6 +11,7 @@ mod given;
 pub mod laws;
 mod look_ahead;
 mod pieces;
+mod rc_data;
 pub mod scales;
 #[cfg(test)]
 mod tests;
@@ -19,3 +20,4 @@ pub use emitted::EmittedData;
 pub use error::PassDataError;
 pub use given::{GivenData, Header};
 pub use look_ahead::LookAhead;
+pub use rc_data::RcData;
