@@ -6,7 +6,7 @@ use Rattle.session_channels.specs.declared.errors.PutError.TheVariants.{Full, Cl
 use Rattle.session_channels.specs.declared.errors.TakeError.{TakeError}
 use Rattle.session_channels.specs.declared.errors.TakeError.TheVariants.{Empty, Closed as Ended}
 use Rattle.session_channels.specs.declared.local_queue.LocalQueue.{LocalQueue}
-use Rattle.session_channels.specs.Queues.{Queue, next_count}
+use Rattle.session_channels.specs.Queues.{Queue, new_queue, next_count}
 
 -- the messages in order, whether it is closed, and what every queue means
 pub record Local (M : Type 0) : Type 0 where
@@ -26,14 +26,11 @@ local_of local = record {
   };
 }
 
-abbrev pub no_counts : Counts
-no_counts = record { full = 0; empty = 0; closed = 0; out_of_memory = 0 }
-
 abbrev pub new_local : {M : Type 0} → Option ℕ → Local M
 new_local capacity = record {
   contents = [];
   is_closed = false;
-  queue = record { capacity = capacity; counts = no_counts; closes = 0; at_close = no_counts };
+  queue = new_queue capacity;
 }
 
 -- whether a queue with so many messages holds its capacity

@@ -1,5 +1,5 @@
 -- What contracts see of a queue, and what each answer of it means.
-use Rattle.std.specs.Prelude.{ℕ, ◌≡◌, ◌+◌, ◌<◌, ◌≤◌, nat_lt, if◌then◌else◌, List, [], ◌∷◌, ◌++◌, length, Option, Some, None, option_map, IsSome, IfSome, Result}
+use Rattle.std.specs.Prelude.{ℕ, ◌≡◌, ◌+◌, ◌<◌, ◌≤◌, nat_lt, if◌then◌else◌, List, [], ◌∷◌, ◌++◌, length, Option, Some, None, option_map, IsSome, OnOk, OnErr, IfOk, IfErr, Result}
 use Rattle.coding_base.specs.Faults.{last_count, Rose}
 use Rattle.session_channels.specs.declared.counts.Counts.{Counts}
 use Rattle.session_channels.specs.declared.errors.PutError.{PutError}
@@ -14,6 +14,13 @@ pub record Queue : Type 0 where
   pub counts : Counts
   pub closes : ℕ
   pub at_close : Counts
+
+abbrev pub no_counts : Counts
+no_counts = record { full = 0; empty = 0; closed = 0; out_of_memory = 0 }
+
+-- a queue that no call was made on
+abbrev pub new_queue : Option ℕ → Queue
+new_queue capacity = record { capacity = capacity; counts = no_counts; closes = 0; at_close = no_counts }
 
 -- one more, up to the last value of a count
 abbrev pub next_count : ℕ → ℕ
@@ -62,3 +69,25 @@ behind message contents = option_map (λ held. held ++ message ∷ []) contents
 
 abbrev pub before_all : {M : Type 0} → M → Option (List M) → Option (List M)
 before_all message contents = option_map (λ held. message ∷ held) contents
+
+-- a put, as every queue means it: one turn of the queue (`gives`) with this answer, its contents and its counts
+pub record Puts {Q M : Type 0} (gives : Q → M → Result (Unit {0}) (PutError M) → Q → Type 0) (contents : Q → Option (List M)) (queue : Q → Queue) (before : Q) (message : M) (answer : Result (Unit {0}) (PutError M)) (now : Q) : Type 0 where
+  pub one_turn : gives before message answer now
+  pub put : OnOk answer (contents now ≡ behind message (contents before))
+  pub kept : OnErr answer (contents now ≡ contents before)
+  pub back : IfErr answer (λ error. given_back error ≡ message)
+  pub cause : IfErr answer (λ error. HasPutCause (queue before) (queue now) error)
+  pub turn : IsTurn (queue before) (queue now)
+
+-- a take, as every queue means it
+pub record Takes {Q M : Type 0} (gives : Q → Result M TakeError → Q → Type 0) (contents : Q → Option (List M)) (queue : Q → Queue) (before : Q) (answer : Result M TakeError) (now : Q) : Type 0 where
+  pub one_turn : gives before answer now
+  pub taken : IfOk answer (λ front. contents before ≡ before_all front (contents now))
+  pub kept : OnErr answer (contents now ≡ contents before)
+  pub cause : IfErr answer (λ error. HasTakeCause (queue before) (queue now) error)
+  pub turn : IsTurn (queue before) (queue now)
+
+-- a `close`, as every queue means it
+pub record Closes {Q M : Type 0} (contents : Q → Option (List M)) (queue : Q → Queue) (before now : Q) : Type 0 where
+  pub kept : contents now ≡ contents before
+  pub closed : IsClosing (queue before) (queue now)

@@ -1,5 +1,4 @@
 ghost use Rattle.std.specs.Prelude.{◌≡◌};
-ghost use Rattle.session_channels.specs.LocalQueues.{no_counts};
 ghost use Rattle.session_channels.specs.Queues.{next_count};
 
 /// How often a queue answered each refusal. A count stops at its type's last value.

@@ -1,14 +1,32 @@
-//! Queues between a session and the threads around it: what every queue means, and the queue in memory.
+//! Channels between a session and the threads around it: what every queue means, the queue in memory, and the ends that send
+//! frames and pass data and receive packets and pass data, over any queue.
 #![tactic(auto)]
 
+mod answers;
 mod counts;
 mod errors;
+mod fault;
+mod frame_sender;
 mod local_queue;
+mod packet_receiver;
 mod queue;
+mod rc_data_receiver;
+mod rc_data_sender;
+mod received;
+mod sender;
+mod shared_queue;
 #[cfg(test)]
 mod tests;
 
 pub use counts::Counts;
-pub use errors::{PutError, TakeError};
+pub use errors::{PutError, RecvError, SendError, TakeError, TryRecvError, TrySendError};
+pub use fault::ChannelFault;
+pub use frame_sender::{FrameMessage, FrameSender};
 pub use local_queue::LocalQueue;
+pub use packet_receiver::{PacketMessage, PacketReceiver};
+pub use pass_data::RcData;
 pub use queue::{Put, Take};
+pub use rc_data_receiver::RcDataReceiver;
+pub use rc_data_sender::RcDataSender;
+pub use received::{Receive, Received};
+pub use shared_queue::SharedQueue;

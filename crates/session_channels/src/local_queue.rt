@@ -119,11 +119,17 @@ impl<M> LocalQueue<M> {
 
 impl<M> Put<M> for LocalQueue<M> {
     ghost use Rattle.std.specs.Prelude.{Some};
-    ghost use Rattle.session_channels.specs.LocalQueues.{local_of};
+    ghost use Rattle.session_channels.specs.LocalQueues.{IsPut, local_of};
 
     ghost contents = { λ local. Some (local_of local).contents };
 
     ghost queue = { λ local. (local_of local).queue };
+
+    ghost try_put_gives = { λ before message answer now.
+        IsPut (local_of before) message answer (local_of now) };
+
+    ghost put_gives = { λ before message answer now.
+        IsPut (local_of before) message answer (local_of now) };
 
     fn try_put(&mut self, message: M) -> Result<(), PutError<M>> {
         self.try_put(message)
@@ -143,12 +149,17 @@ impl<M> Put<M> for LocalQueue<M> {
 }
 
 impl<M> Take<M> for LocalQueue<M> {
-    ghost use Rattle.std.specs.Prelude.{Some};
-    ghost use Rattle.session_channels.specs.LocalQueues.{local_of};
+    ghost use Rattle.std.specs.Prelude.{Some, true};
+    ghost use Rattle.session_channels.specs.LocalQueues.{IsTake, local_of};
 
     ghost contents = { λ local. Some (local_of local).contents };
 
     ghost queue = { λ local. (local_of local).queue };
+
+    ghost try_take_gives = { λ before answer now.
+        IsTake (local_of before).is_closed (local_of before) answer (local_of now) };
+
+    ghost take_gives = { λ before answer now. IsTake true (local_of before) answer (local_of now) };
 
     fn try_take(&mut self) -> Result<M, TakeError> {
         self.try_take()
