@@ -1,6 +1,6 @@
 -- What contracts see of the ends of a channel, and what each of their calls makes of a turn of its queue. `puts`, `takes` and
 -- `closes` stand for what the queue's own calls mean (`Puts`, `Takes`, `Closes` of Queues).
-use Rattle.std.specs.Prelude.{◌≡◌, ℕ, ◌+◌, ◌==◌, ◌⊎◌, Bool, MatchBool, MatchOption, List, Option, Some, None, Result, Ok, Err, IsOk}
+use Rattle.std.specs.Prelude.{◌≡◌, ℕ, ◌+◌, ◌==◌, ◌⊎◌, Bool, MatchBool, MatchOption, Option, Some, None, Result, Ok, Err, IsOk}
 use Rattle.std.specs.declared.alloc.Global.{Global}
 use Rattle.std.specs.declared.sync.Arc.{Arc}
 use Rattle.av1_frame.specs.declared.frame.Frame.{Frame}
@@ -94,11 +94,11 @@ pub record ClosesQueue {Q A E : Type 0} (closes : Q → Q → Type 0) (before : 
   pub done : IsOk result
 
 -- a frame is sent, or the queue closed where there is none. Where no memory was left to share the frame, nothing changed
-abbrev pub IsFrameSend : {Q T O E : Type 0} → (Q → FrameMessage T O → Result (Unit {0}) (PutError (FrameMessage T O)) → Q → Type 0) → (Q → Q → Type 0) → (Result (Unit {0}) (PutError (FrameMessage T O)) → Result (Unit {0}) E) → E → FrameEnd Q → Option (Frame T) → Option (FrameParameters O) → Result (Unit {0}) E → FrameEnd Q → Type 0
+abbrev pub IsFrameSend : {Q T O E : Type 0} → (Q → FrameMessage T O → Result (Unit {0}) (PutError (FrameMessage T O)) → Q → Type 0) → (Q → Q → Type 0) → (Result (Unit {0}) (PutError (FrameMessage T O)) → Result (Unit {0}) E) → E → Sender Q → Option (Frame T) → Option (FrameParameters O) → Result (Unit {0}) E → Sender Q → Type 0
 IsFrameSend puts closes told no_memory before picture parameters result now =
     MatchOption picture
-    (ClosesQueue closes before.sender result now.sender)
-    (λ frame. PutsFrame puts told before.sender frame parameters result now.sender)
+    (ClosesQueue closes before result now)
+    (λ frame. PutsFrame puts told before frame parameters result now)
     ⊎ ((result ≡ Err no_memory) × (now ≡ before))
 
 -- a receiver of packets: settings, and its queue

@@ -1,5 +1,5 @@
 -- The queue in memory, to the last count.
-use Rattle.std.specs.Prelude.{ℕ, ◌≡◌, Bool, true, false, nat_le, if◌then◌else◌, IsTrue, IsFalse, List, [], ◌∷◌, ◌++◌, length, Option, Some, None, Result, Ok, Err}
+use Rattle.std.specs.Prelude.{ℕ, ◌≡◌, Bool, true, false, nat_le, IsTrue, IsFalse, List, [], ◌∷◌, ◌++◌, length, Option, Some, None, Result, Ok, Err}
 use Rattle.session_channels.specs.declared.counts.Counts.{Counts}
 use Rattle.session_channels.specs.declared.errors.PutError.{PutError}
 use Rattle.session_channels.specs.declared.errors.PutError.TheVariants.{Full, Closed, OutOfMemory}

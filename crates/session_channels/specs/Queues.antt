@@ -1,5 +1,5 @@
 -- What contracts see of a queue, and what each answer of it means.
-use Rattle.std.specs.Prelude.{ℕ, ◌≡◌, ◌+◌, ◌<◌, ◌≤◌, nat_lt, if◌then◌else◌, List, [], ◌∷◌, ◌++◌, length, Option, Some, None, option_map, IsSome, OnOk, OnErr, IfOk, IfErr, Result}
+use Rattle.std.specs.Prelude.{ℕ, ◌≡◌, ◌+◌, ◌≤◌, nat_lt, if◌then◌else◌, List, [], ◌∷◌, ◌++◌, Option, option_map, IsSome, OnOk, OnErr, IfOk, IfErr, Result}
 use Rattle.coding_base.specs.Faults.{last_count, Rose}
 use Rattle.session_channels.specs.declared.counts.Counts.{Counts}
 use Rattle.session_channels.specs.declared.errors.PutError.{PutError}

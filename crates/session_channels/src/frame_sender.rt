@@ -64,9 +64,10 @@ impl<T: Drop, O: Drop, Q: Put<FrameMessage<T, O>> + Drop> FrameSender<T, O, Q> {
         alloc: Global,
         frame: F,
     ) -> Result<(), TrySendError<FrameInput<T, O>>>
-        ensures { IsFrameSend (Puts Q.try_put_gives Q.contents Q.queue)
+        ensures send { IsFrameSend (Puts Q.try_put_gives Q.contents Q.queue)
             (Closes Q.contents Q.queue) (try_send_result as_input) TrySendError.OutOfMemory
-            self.old (F.picture frame) (F.parameters frame) result self.new }
+            self.old.sender (F.picture frame) (F.parameters frame) result self.new.sender }
+        ensures settings { self.new.enc ≡ self.old.enc }
     {
         let (frame, parameters) = match frame.into(alloc) {
             Ok(input) => input,
@@ -90,9 +91,10 @@ impl<T: Drop, O: Drop, Q: Put<FrameMessage<T, O>> + Drop> FrameSender<T, O, Q> {
         alloc: Global,
         frame: F,
     ) -> Result<(), SendError<FrameInput<T, O>>>
-        ensures { IsFrameSend (Puts Q.put_gives Q.contents Q.queue)
+        ensures send { IsFrameSend (Puts Q.put_gives Q.contents Q.queue)
             (Closes Q.contents Q.queue) (send_result as_input) SendError.OutOfMemory
-            self.old (F.picture frame) (F.parameters frame) result self.new }
+            self.old.sender (F.picture frame) (F.parameters frame) result self.new.sender }
+        ensures settings { self.new.enc ≡ self.old.enc }
     {
         let (frame, parameters) = match frame.into(alloc) {
             Ok(input) => input,

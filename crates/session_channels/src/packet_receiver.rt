@@ -22,7 +22,6 @@ pub struct PacketReceiver<T, O, Q> {
 }
 
 impl<T, O, Q> Model for PacketReceiver<T, O, Q> {
-    ghost use Rattle.av1_settings.specs.Checks.{IsValid};
     ghost use Rattle.session_channels.specs.Ends.{PacketEnd};
 
     ghost Value = { PacketEnd Q };

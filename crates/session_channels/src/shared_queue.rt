@@ -9,7 +9,7 @@ use std::alloc::Global;
 use std::marker::Model;
 use std::sync::{Arc, Condvar, Mutex, Wait};
 
-// What the handles of a queue share: the queue in memory, and the word of its moves.
+// What the handles of a queue share: the queue in memory, and where threads wait for a move of it.
 #[derive(Drop)]
 struct Shared<M> {
     queue: Mutex<LocalQueue<M>>,
@@ -138,7 +138,9 @@ impl<M: Drop> Shared<M> {
         ensures { IfErr result (λ error. given_back error ≡ message) }
     {
         let answer = self.queue.lock(rt).try_put(message);
-        self.moved.notify_all();
+        if answer.is_ok() {
+            self.moved.notify_all();
+        }
         answer
     }
 
@@ -166,7 +168,9 @@ impl<M: Drop> Shared<M> {
 
     fn try_take<R: Wait>(&self, rt: &R) -> Result<M, TakeError> {
         let answer = self.queue.lock(rt).try_take();
-        self.moved.notify_all();
+        if answer.is_ok() {
+            self.moved.notify_all();
+        }
         answer
     }
 

@@ -1,8 +1,17 @@
+ghost use Rattle.std.specs.Prelude.{IfSome};
+ghost use Rattle.av1_settings.specs.Checks.{IsValid};
+
 mod ends;
 mod queues;
 mod shared;
+mod texts;
+mod threads;
 
 use crate::PutError;
+use av1_settings::{Config, EncoderConfig, EncoderStats, FrameType, LevelRow, LevelTables};
+use coding_base::{Bytes, OutOfMemory};
+use session_core::Packet;
+use std::alloc::Global;
 
 // What a put answered.
 #[derive(Clone, Copy, Debug, PartialEq, Eq)]
@@ -20,4 +29,35 @@ fn answer_of(answer: Result<(), PutError<u16>>) -> Answer {
         Err(PutError::Closed(message)) => Answer::Closed(message),
         Err(PutError::OutOfMemory(message)) => Answer::OutOfMemory(message),
     }
+}
+
+// The default settings, if they are valid.
+fn settings() -> Option<EncoderConfig>
+    ensures { IfSome result (λ enc. IsValid enc) }
+{
+    let row = LevelRow {
+        defined: false,
+        max_pic_size: 0,
+        max_h_size: 0,
+        max_v_size: 0,
+        max_display_rate: 0,
+    };
+    let config = Config::new();
+    match config.validate(&LevelTables::new([row; 31])) {
+        Ok(()) => Some(config.enc),
+        Err(_) => None,
+    }
+}
+
+// The packet of this number, of two bytes.
+fn packet<T>(alloc: Global, input_frameno: u64) -> Result<Packet<T, u64>, OutOfMemory> {
+    Ok(Packet {
+        bytes: Bytes::from_slice(alloc, &[18, 0])?,
+        rec: None,
+        source: None,
+        input_frameno,
+        frame_type: FrameType::KEY,
+        enc_stats: EncoderStats::default(),
+        opaque: None,
+    })
 }

@@ -1,7 +1,5 @@
 // The ends of channels, over queues in memory, shared queues, and a queue of the test's own.
-ghost use Rattle.std.specs.Prelude.{IfSome};
-ghost use Rattle.av1_settings.specs.Checks.{IsValid};
-
+use super::{packet, settings};
 use crate::counts::next_count;
 use crate::{
     ChannelFault, Counts, FrameMessage, FrameSender, LocalQueue, PacketMessage, PacketReceiver,
@@ -9,7 +7,7 @@ use crate::{
     TakeError, TryRecvError, TrySendError,
 };
 use arrayvec::ArrayVec;
-use av1_frame::Frame;
+use av1_frame::{Frame, Pixel};
 use av1_settings::{
     Config, EncoderConfig, EncoderStats, FrameType, LevelRow, LevelTables, T35List,
 };
@@ -19,30 +17,12 @@ use std::alloc::Global;
 use std::sync::Arc;
 use std::test::Fail;
 
-type Frames = LocalQueue<FrameMessage<u8, u64>>;
+type Frames<T> = LocalQueue<FrameMessage<T, u64>>;
 
 type Packets = LocalQueue<PacketMessage<u8, u64>>;
 
-// The default settings, if they are valid.
-fn settings() -> Option<EncoderConfig>
-    ensures { IfSome result (λ enc. IsValid enc) }
-{
-    let row = LevelRow {
-        defined: false,
-        max_pic_size: 0,
-        max_h_size: 0,
-        max_v_size: 0,
-        max_display_rate: 0,
-    };
-    let config = Config::new();
-    match config.validate(&LevelTables::new([row; 31])) {
-        Ok(()) => Some(config.enc),
-        Err(_) => None,
-    }
-}
-
 // A sender into a queue in memory of capacity 2, of so many frames.
-fn frame_sender(alloc: Global, limit: u64) -> Option<FrameSender<u8, u64, Frames>> {
+fn frame_sender<T: Pixel>(alloc: Global, limit: u64) -> Option<FrameSender<T, u64, Frames<T>>> {
     let enc = settings()?;
     Some(FrameSender::new(&enc, LocalQueue::new(alloc, Some(2)), limit))
 }
@@ -66,14 +46,14 @@ enum Sent {
 }
 
 // The width and the opaque value, 0 for none.
-fn told(input: FrameInput<u8, u64>) -> (usize, u64) {
+fn told<T: Drop>(input: FrameInput<T, u64>) -> (usize, u64) {
     let (frame, parameters) = input;
     let width = frame.map_or(0, |frame| frame.y.width);
     let opaque = parameters.and_then(|parameters| parameters.opaque);
     (width, opaque.unwrap_or(0))
 }
 
-fn try_sent(answer: Result<(), TrySendError<FrameInput<u8, u64>>>) -> Sent {
+fn try_send_outcome<T: Drop>(answer: Result<(), TrySendError<FrameInput<T, u64>>>) -> Sent {
     match answer {
         Ok(()) => Sent::Done,
         Err(TrySendError::Full(input)) => {
@@ -88,7 +68,7 @@ fn try_sent(answer: Result<(), TrySendError<FrameInput<u8, u64>>>) -> Sent {
     }
 }
 
-fn sent(answer: Result<(), SendError<FrameInput<u8, u64>>>) -> Sent {
+fn send_outcome<T: Drop>(answer: Result<(), SendError<FrameInput<T, u64>>>) -> Sent {
     match answer {
         Ok(()) => Sent::Done,
         Err(SendError::Refused(input)) => {
@@ -102,25 +82,28 @@ fn sent(answer: Result<(), SendError<FrameInput<u8, u64>>>) -> Sent {
 #[test]
 fn a_full_queue_gives_the_frame_back(rt: HostRuntime) -> Result<(), Fail> {
     let alloc = rt.alloc();
-    let mut sender = frame_sender(alloc, 9).expect(&rt, "valid settings");
+    let mut sender = frame_sender::<u8>(alloc, 9).expect(&rt, "valid settings");
     assert!(rt; sender.is_empty());
     for number in 0..2 {
         let frame = sender.new_frame(alloc)?;
         let answer = sender.try_send(alloc, (frame, parameters(alloc, number)));
-        assert_eq!(rt; try_sent(answer), Sent::Done);
+        assert_eq!(rt; try_send_outcome(answer), Sent::Done);
     }
     assert_eq!(rt; sender.len(), 2);
     let frame = sender.new_frame(alloc)?;
     let answer = sender.try_send(alloc, (frame, parameters(alloc, 7)));
-    assert_eq!(rt; try_sent(answer), Sent::Full(640, 7));
+    assert_eq!(rt; try_send_outcome(answer), Sent::Full(640, 7));
     let frame = Arc::new(alloc, sender.new_frame(alloc)?)?;
     let answer = sender.send(alloc, (frame, Some(parameters(alloc, 8))));
-    assert_eq!(rt; sent(answer), Sent::Refused(640, 8));
+    assert_eq!(rt; send_outcome(answer), Sent::Refused(640, 8));
     let nothing: Option<Arc<Frame<u8>>> = None;
-    assert_eq!(rt; try_sent(sender.try_send(alloc, nothing)), Sent::Done);
+    assert_eq!(rt;
+        try_send_outcome(sender.try_send(alloc, nothing)),
+        Sent::Done
+    );
     let frame = sender.new_frame(alloc)?;
     assert_eq!(rt;
-        try_sent(sender.try_send(alloc, frame)),
+        try_send_outcome(sender.try_send(alloc, frame)),
         Sent::Disconnected(640, 0)
     );
     sender.close();
@@ -130,29 +113,23 @@ fn a_full_queue_gives_the_frame_back(rt: HostRuntime) -> Result<(), Fail> {
 #[test]
 fn a_sender_at_its_limit_still_closes(rt: HostRuntime) -> Result<(), Fail> {
     let alloc = rt.alloc();
-    let mut sender = frame_sender(alloc, 1).expect(&rt, "valid settings");
+    let mut sender = frame_sender::<u16>(alloc, 1).expect(&rt, "valid settings");
     let frame = sender.new_frame(alloc)?;
-    assert_eq!(rt; sent(sender.send(alloc, frame)), Sent::Done);
+    assert_eq!(rt; send_outcome(sender.send(alloc, frame)), Sent::Done);
     let frame = sender.new_frame(alloc)?;
-    assert_eq!(rt; try_sent(sender.try_send(alloc, frame)), Sent::Full(640, 0));
+    assert_eq!(rt;
+        try_send_outcome(sender.try_send(alloc, frame)),
+        Sent::Full(640, 0)
+    );
     let frame = sender.new_frame(alloc)?;
-    assert_eq!(rt; sent(sender.send(alloc, frame)), Sent::Refused(640, 0));
-    let nothing: Option<Arc<Frame<u8>>> = None;
-    assert_eq!(rt; sent(sender.send(alloc, nothing)), Sent::Done);
+    assert_eq!(rt;
+        send_outcome(sender.send(alloc, frame)),
+        Sent::Refused(640, 0)
+    );
+    let nothing: Option<Arc<Frame<u16>>> = None;
+    assert_eq!(rt; send_outcome(sender.send(alloc, nothing)), Sent::Done);
     assert!(rt; !sender.is_empty());
     Ok(())
-}
-
-fn packet(alloc: Global, input_frameno: u64) -> Result<Packet<u8, u64>, OutOfMemory> {
-    Ok(Packet {
-        bytes: Bytes::from_slice(alloc, &[18, 0])?,
-        rec: None,
-        source: None,
-        input_frameno,
-        frame_type: FrameType::KEY,
-        enc_stats: EncoderStats::default(),
-        opaque: None,
-    })
 }
 
 // A queue of so many packets and, where a fault is given, the fault behind them; closed.

@@ -1,4 +1,4 @@
-// Queues through their traits, and the texts of their refusals.
+// Queues through their traits.
 use super::{Answer, answer_of};
 use crate::{LocalQueue, Put, PutError, Take, TakeError};
 use std::test::Fail;
@@ -56,20 +56,4 @@ fn a_queue_without_a_capacity(rt: HostRuntime) {
     assert_eq!(rt; queue.take(), Ok(2));
     assert_eq!(rt; queue.take(), Err(TakeError::Closed));
     assert_eq!(rt; queue.try_take(), Err(TakeError::Closed));
-}
-
-#[test]
-fn texts(rt: HostRuntime) -> Result<(), Fail> {
-    let alloc = rt.alloc();
-    let rows = [
-        (PutError::Full(7).to_string(alloc)?, "the queue is full"),
-        (PutError::Closed(7).to_string(alloc)?, "the queue is closed"),
-        (PutError::OutOfMemory(7).to_string(alloc)?, "out of memory"),
-        (TakeError::Empty.to_string(alloc)?, "the queue is empty"),
-        (TakeError::Closed.to_string(alloc)?, "the queue is closed"),
-    ];
-    for (text, wanted) in &rows {
-        assert_eq!(rt; text.as_str(), *wanted);
-    }
-    Ok(())
 }
