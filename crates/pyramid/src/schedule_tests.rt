@@ -165,13 +165,10 @@ fn coded_behind(
     key: u64,
     frames: u64,
     done: u64,
-) -> Result<u64, OutOfMemory>
-    requires interval { 1 ≤ interval }
-    requires frames { frames ≤ 100 }
-{
-    let mut schedule = Schedule::new(alloc, cfg, interval);
+) -> Result<u64, OutOfMemory> {
+    let mut schedule = Schedule::new(alloc, cfg, interval.max(1));
     schedule.note_key(key)?;
-    schedule.extend(frames)?;
+    schedule.extend(frames.min(100))?;
     for _ in 0..done {
         schedule.advance();
     }
