@@ -49,7 +49,7 @@ endless_start_after interval keys start =
 -- input `key_input`. By subtype it met `before` until this key and `since` from it on. It met `frames` coded frames and `tus`
 -- temporal units in all, and `frames_at_key` and `tus_at_key` until the key.
 
--- it begins at the place that is being coded, or, where nothing is known, at the key of input 0
+-- it begins at the place that is being coded, or, where nothing is known, as before the first command, at the key of input 0
 abbrev pub first_place : List Place → Place
 first_place places = slice_index_or places 0 (key_place 0)
 

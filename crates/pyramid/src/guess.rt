@@ -223,7 +223,8 @@ impl GuessWalk {
     fn pass_row(&mut self, row: &PlaceRow)
         requires below { IsBelow (2 ^ 50) self.old }
         requires level { row.now.level ≤ 2 }
-        ensures { self.new ≡ (if row.now.show_existing then past_show self.old else past_frame row.now.level row.now.shown self.old) }
+        ensures { self.new ≡ (if row.now.show_existing then past_show self.old
+            else past_frame row.now.level row.now.shown self.old) }
     {
         if row.show_existing {
             self.pass_show();

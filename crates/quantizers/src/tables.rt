@@ -18,7 +18,7 @@ pub struct BadTable {
 /// Dc_Qlookup at a bit depth).
 ///
 /// AC values are at least 1 and strictly increase. DC values are at least 1 and never fall.
-#[derive(Debug, Drop)]
+#[derive(Clone, Copy, Debug)]
 pub struct QTables {
     ac: [u16; 256],
     dc: [u16; 256],
@@ -31,6 +31,8 @@ impl Model for QTables {
     ghost Value = { Tables };
 
     ghost view = { λ t. record { ac = t.ac; dc = t.dc } };
+
+    ghost inverse = { λ tables. record { ac = tables.ac; dc = tables.dc } };
 
     ghost invariant = { λ t. first_bad t.ac t.dc ≡ None };
 }
