@@ -141,6 +141,8 @@ run 'fault 0\nsend\nflush\nreceive\n' run
 wanted 'a coder fault' 8 'coder fault 0\n' $?
 run 'fault 1\nsend\nflush\nreceive\n' run
 wanted 'a fault that is not reached' 0 "$one" $?
+run 'bitrate 30000\nfault 0\nsend\nflush\nreceive\n' run
+wanted 'a fault in a try' 8 'coder fault 0\n' $?
 
 # Status 9: no memory for a picture; and none is wanted without a frame.
 (
@@ -150,6 +152,17 @@ wanted 'a fault that is not reached' 0 "$one" $?
 wanted 'no memory' 9 '' $?
 run 'size 65535 65535\nflush\nreceive\n' run
 wanted 'no picture' 0 'flushed\nlimit-reached\n' $?
+
+# Scripts that numbers make; standard input isn't read.
+six='frames 2000\nkeys 63\nhidden 937\npackets 2000\nbytes 245244\nreservoir 178560\n'
+"$program" gen 7 >"$work/out" 2>"$work/err" <&-
+wanted 'the script of 7' 0 "$six" $?
+"$program" gen 0007 >"$work/out" 2>"$work/err" <&-
+wanted 'the same once more' 0 "$six" $?
+for number in 0 10001 -7 '' 000000000000000000007; do
+    "$program" gen "$number" >"$work/out" 2>"$work/err"
+    wanted "no script of '$number'" 2 '' $?
+done
 
 # The texts.
 "$program" --version >"$work/out" 2>"$work/err"

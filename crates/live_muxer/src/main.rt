@@ -3,8 +3,8 @@
 
 use anyhow::Result;
 use av1_settings::{Config, EncoderConfig, EncoderStatus};
-use scripted::{ScriptedCoder, no_levels};
-use session_core::{Context, NewContext, NoDetector};
+use scripted::{ScriptedCoder, no_levels, scripted_tables};
+use session_core::{Context, NewContext, NoDetector, NoScale};
 use std::alloc::Global;
 use std::io::Print;
 
@@ -12,7 +12,7 @@ use std::io::Print;
 fn write_packets(
     rt: &impl Print,
     alloc: Global,
-    session: &mut Context<u8, u64, NoDetector, ScriptedCoder>,
+    session: &mut Context<u8, u64, NoDetector, NoScale, ScriptedCoder>,
 ) -> Result<()> {
     for _ in 0..u64::MAX {
         match session.receive_packet(alloc) {
@@ -33,7 +33,14 @@ fn main(rt: HostRuntime) -> Result<()> {
     enc.set_key_frame_interval(0, 5);
     enc.speed_settings.rdo_lookahead_frames = 10;
     let cfg = Config::new().with_encoder_config(enc);
-    let mut session = cfg.new_context(alloc, &no_levels(), NoDetector, ScriptedCoder::new(alloc))?;
+    let mut session = cfg.new_context(
+        alloc,
+        &no_levels(),
+        &scripted_tables(),
+        NoDetector,
+        NoScale,
+        ScriptedCoder::new(alloc),
+    )?;
     for _ in 0..10 {
         let frame = session.new_frame(alloc)?;
         session.send_frame(alloc, frame)?;

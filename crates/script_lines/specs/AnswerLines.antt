@@ -1,12 +1,12 @@
--- The lines that say what the program's detector and coder are to answer, and what a report has besides.
-use Rattle.std.specs.Prelude.{ℕ, ◌&&◌, nat_le, if◌then◌else◌, List, Option, None, Some, codes, bytes_eq}
+-- The lines that say what the program's detector, its mean scales and its coder are to answer, and what a report has besides.
+use Rattle.std.specs.Prelude.{ℕ, ◌&&◌, nat_le, if◌then◌else◌, List, Option, None, Some, option_and_then, codes, bytes_eq}
 use Rattle.std.specs.Option.{option_map}
 use Rattle.script_lines.specs.declared.answer.Answer.{Answer}
-use Rattle.script_lines.specs.declared.answer.Answer.TheVariants.{Cut, ByteCount, Fault}
+use Rattle.script_lines.specs.declared.answer.Answer.TheVariants.{Cut, ByteCount, Fault, Scale}
 use Rattle.script_lines.specs.declared.answer.Print.{Print}
-use Rattle.script_lines.specs.declared.answer.Print.TheVariants.{Bytes}
+use Rattle.script_lines.specs.declared.answer.Print.TheVariants.{Bytes, QuantizerIndex, Reservoir}
 use Rattle.script_lines.specs.declared.answer.TheConstants.{MOST_FRAME_BYTES}
-use Rattle.script_lines.specs.DecimalNumbers.{number_of}
+use Rattle.script_lines.specs.DecimalNumbers.{number_of, signed_up_to}
 
 -- `cut P`, `fault K`
 abbrev pub answer_of_one : List ℕ → List ℕ → Option Answer
@@ -22,6 +22,15 @@ answer_of_two word frame count =
     then Some (ByteCount frame count)
     else None
 
--- `bytes` behind `print`
+-- `P V` behind `scale`, with a V of 64 bits and a sign
+abbrev pub scale_of : List ℕ → List ℕ → Option Answer
+scale_of frame value =
+    option_and_then (λ p. option_map (Scale p) (signed_up_to 0x7fff_ffff_ffff_ffff value)) (number_of frame)
+
+-- `bytes`, `q` or `reservoir` behind `print`
 abbrev pub print_of : List ℕ → Option Print
-print_of text = if bytes_eq text (codes "bytes") then Some Bytes else None
+print_of text =
+    if bytes_eq text (codes "bytes") then Some Bytes
+    else if bytes_eq text (codes "q") then Some QuantizerIndex
+    else if bytes_eq text (codes "reservoir") then Some Reservoir
+    else None

@@ -9,7 +9,7 @@ use Rattle.av1_settings.specs.declared.config.Config.{Config}
 use Rattle.av1_settings.specs.declared.rate_control.RateControlConfig.{RateControlConfig}
 use Rattle.av1_settings.specs.Defaults.{default_config, default_rate_control, second_pass}
 use Rattle.script_lines.specs.declared.answer.Answer.{Answer}
-use Rattle.script_lines.specs.declared.answer.Answer.TheVariants.{Cut, ByteCount, Fault}
+use Rattle.script_lines.specs.declared.answer.Answer.TheVariants.{Cut, ByteCount, Fault, Scale}
 use Rattle.script_lines.specs.declared.line.Line.{Line}
 use Rattle.script_lines.specs.declared.line.Line.TheVariants.{Blank, Set, Answers, Prints, Summary as SummaryLine, Calls}
 use Rattle.script_lines.specs.declared.script.Draft.{Draft}
@@ -22,7 +22,7 @@ use Rattle.script_lines.specs.SettingLines.{encoder_of}
 
 -- a script without lines
 abbrev pub empty_draft : Draft
-empty_draft = record { script = record { settings = []; summary = None; cuts = []; byte_counts = []; faults = []; prints = []; calls = [] }; words = [] }
+empty_draft = record { script = record { settings = []; summary = None; cuts = []; byte_counts = []; faults = []; scales = []; prints = []; calls = [] }; words = [] }
 
 -- a setting stands before the calls, and its word once; so does the summary
 abbrev pub may_set : Draft → List ℕ → Bool
@@ -42,6 +42,8 @@ with_answer script (Cut frame) = record script { cuts = script.cuts ++ frame ∷
 with_answer script (ByteCount frame count) =
     record script { byte_counts = script.byte_counts ++ (frame, count) ∷ [] }
 with_answer script (Fault call) = record script { faults = script.faults ++ call ∷ [] }
+with_answer script (Scale frame value) =
+    record script { scales = script.scales ++ (frame, value) ∷ [] }
 
 -- the script with one more line of this key, where the line may stand behind it
 abbrev pub with_line : Draft → List ℕ → Line → Option Draft

@@ -7,7 +7,7 @@ use Rattle.script_lines.specs.declared.line.Action.TheVariants.{Send, SendKey, S
 use Rattle.script_lines.specs.declared.line.TheConstants.{MOST_SIDE}
 use Rattle.script_lines.specs.declared.line.Line.{Line}
 use Rattle.script_lines.specs.declared.line.Line.TheVariants.{Blank, Set, Answers, Prints, Summary, Calls}
-use Rattle.script_lines.specs.AnswerLines.{answer_of_one, answer_of_two, print_of}
+use Rattle.script_lines.specs.AnswerLines.{answer_of_one, answer_of_two, print_of, scale_of}
 use Rattle.script_lines.specs.DecimalNumbers.{number_of}
 use Rattle.script_lines.specs.HexBytes.{bytes_of}
 use Rattle.script_lines.specs.SettingLines.{setting_of_none, setting_of_one, setting_of_two}
@@ -85,9 +85,11 @@ line_of_numbers word a b =
     option_or (option_map Set (setting_of_two word a b))
     (option_or (option_map Answers (answer_of_two word a b)) (calls_of_two word a b))
 
+-- a word and two texts: numbers, but for `scale`, whose second one has a sign
 abbrev pub line_of_two : List ℕ → List ℕ → List ℕ → Option Line
 line_of_two word first second =
-    option_and_then (λ a. option_and_then (line_of_numbers word a) (number_of second)) (number_of first)
+    if bytes_eq word (codes "scale") then option_map Answers (scale_of first second)
+    else option_and_then (λ a. option_and_then (line_of_numbers word a) (number_of second)) (number_of first)
 
 -- what the words of a line ask for: there are three at most
 abbrev pub line_of_words : List (List ℕ) → Option Line

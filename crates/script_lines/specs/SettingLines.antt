@@ -9,8 +9,8 @@ use Rattle.av1_settings.specs.Defaults.{with_speed_preset}
 use Rattle.av1_settings.specs.Settings.{with_key_frame_interval}
 use Rattle.script_lines.specs.declared.script.TheConstants.{DEFAULT_PRESET}
 use Rattle.script_lines.specs.declared.setting.Setting.{Setting}
-use Rattle.script_lines.specs.declared.setting.Setting.TheVariants.{Preset, Lookahead, SeveralReferences, Size, SampleAspect, TimeBase, BitDepth, Chroma, KeyInterval, SwitchInterval, LowLatency, StillPicture, TimingInfo, Level, Quantizer, MinQuantizer, ReservoirDelay}
-use Rattle.script_lines.specs.DecimalNumbers.{number_of, number_up_to}
+use Rattle.script_lines.specs.declared.setting.Setting.TheVariants.{Preset, Lookahead, SeveralReferences, Size, SampleAspect, TimeBase, BitDepth, Chroma, KeyInterval, SwitchInterval, LowLatency, StillPicture, TimingInfo, Level, Quantizer, MinQuantizer, Bitrate, ReservoirDelay}
+use Rattle.script_lines.specs.DecimalNumbers.{number_of, number_up_to, signed_up_to}
 
 -- ---- what a line sets
 
@@ -50,6 +50,7 @@ setting_of_one word text =
     else if bytes_eq word (codes "level") then option_map Level (number_up_to 255 text)
     else if bytes_eq word (codes "quantizer") then option_map Quantizer (number_of text)
     else if bytes_eq word (codes "minq") then option_map MinQuantizer (number_up_to 255 text)
+    else if bytes_eq word (codes "bitrate") then option_map Bitrate (signed_up_to 0x7fff_ffff text)
     else if bytes_eq word (codes "reservoir") then option_map ReservoirDelay (option_map pos (number_up_to 0x7fff_ffff text))
     else None
 
@@ -86,6 +87,7 @@ with_setting enc TimingInfo = record enc { enable_timing_info = true }
 with_setting enc (Level index) = record enc { level_idx = Some index }
 with_setting enc (Quantizer index) = record enc { quantizer = index }
 with_setting enc (MinQuantizer index) = record enc { min_quantizer = index }
+with_setting enc (Bitrate bits) = record enc { bitrate = bits }
 with_setting enc (ReservoirDelay frames) = record enc { reservoir_frame_delay = Some frames }
 
 -- the speed preset: that of the first `preset` line, else 6

@@ -1,10 +1,10 @@
 ghost use Rattle.std.specs.Prelude.{◌≡◌};
-ghost use Rattle.script_lines.specs.AnswerLines.{answer_of_one, answer_of_two, print_of};
+ghost use Rattle.script_lines.specs.AnswerLines.{answer_of_one, answer_of_two, print_of, scale_of};
 
-use crate::number::number;
+use crate::number::{number, signed_up_to};
 use crate::setting::is;
 
-/// What the program's detector or its coder is to answer.
+/// What the program's detector, its mean scales or its coder is to answer.
 #[derive(Clone, Copy, Debug, PartialEq, Eq)]
 pub enum Answer {
     /// The detector finds a scene cut at this frame.
@@ -18,6 +18,13 @@ pub enum Answer {
     },
     /// The coder fails its call of this number, from 0.
     Fault(u64),
+    /// The mean scale of a frame.
+    Scale {
+        /// The frame.
+        frame: u64,
+        /// Its mean scale.
+        value: i64,
+    },
 }
 
 /// What a report has beside the lines that each has.
@@ -25,6 +32,10 @@ pub enum Answer {
 pub enum Print {
     /// The bytes of each packet.
     Bytes,
+    /// The luma AC quantizer index of each coded frame.
+    QuantizerIndex,
+    /// The bit reservoir after each receive that coded.
+    Reservoir,
 }
 
 // The most bytes of a frame.
@@ -56,6 +67,15 @@ impl Answer {
         }
         None
     }
+
+    /// The answer of `scale` with a frame and a number that may be negative.
+    pub fn of_scale(frame: &[u8], value: &[u8]) -> Option<Answer>
+        ensures { result ≡ scale_of frame.now value.now }
+    {
+        let frame = number(frame)?;
+        let value = signed_up_to(value, i64::MAX as u64)? as i64;
+        Some(Answer::Scale { frame, value })
+    }
 }
 
 impl Print {
@@ -65,6 +85,12 @@ impl Print {
     {
         if is(text, "bytes") {
             return Some(Print::Bytes);
+        }
+        if is(text, "q") {
+            return Some(Print::QuantizerIndex);
+        }
+        if is(text, "reservoir") {
+            return Some(Print::Reservoir);
         }
         None
     }

@@ -14,5 +14,6 @@ mod tests;
 
 pub use answer::{Answer, Print};
 pub use line::{Action, ActionList};
+pub use number::number_up_to;
 pub use script::{MOST_CALLS, Script, ScriptError, SettingList, parse};
 pub use setting::Setting;

@@ -45,7 +45,7 @@ pub enum Line {
     Blank,
     /// A setting.
     Set(Setting),
-    /// What the detector or the coder is to answer.
+    /// What the detector, the mean scales or the coder is to answer.
     Answers(Answer),
     /// What a report has besides.
     Prints(Print),
@@ -140,13 +140,17 @@ fn line_of_one(alloc: Global, word: &[u8], text: &[u8]) -> Result<Option<Line>, 
     }
 }
 
-// What a word and two numbers ask for.
+// What a word and what stands behind it in two words ask for.
 fn line_of_two(word: &[u8], first: &[u8], second: &[u8]) -> Option<Line>
     ensures { result ≡ line_of_two word.now first.now second.now }
 {
+    if is(word, "scale") {
+        return Some(Line::Answers(Answer::of_scale(first, second)?));
+    }
     line_of_numbers(word, number(first)?, number(second)?)
 }
 
+// What a word and two numbers ask for.
 fn line_of_numbers(word: &[u8], first: u64, second: u64) -> Option<Line>
     ensures { result ≡ line_of_numbers word.now first second }
 {

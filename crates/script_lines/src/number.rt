@@ -1,6 +1,6 @@
-ghost use Rattle.std.specs.Prelude.{◌≡◌, ◌≤◌, ◌+◌, ◌*◌, ◌^◌, ◌&&◌, nat_lt, None, Some, IfSome, if◌then◌else◌};
+ghost use Rattle.std.specs.Prelude.{◌≡◌, ◌≤◌, ◌+◌, ◌*◌, ◌^◌, ◌&&◌, nat_lt, pos, negsuc, ◌≤ℤ◌, None, Some, IfSome, if◌then◌else◌};
 ghost use Rattle.std.specs.Char.{digit_value, is_ascii_digit};
-ghost use Rattle.script_lines.specs.DecimalNumbers.{digits_of, number_of, number_up_to};
+ghost use Rattle.script_lines.specs.DecimalNumbers.{digits_of, number_of, number_up_to, signed_of, signed_up_to};
 
 // The most digits of a number.
 const MOST_DIGITS: usize = 20;
@@ -23,6 +23,32 @@ pub fn number_up_to(text: &[u8], most: u64) -> Option<u64>
 {
     let n = number(text)?;
     if n <= most { Some(n) } else { None }
+}
+
+/// The number that such digits write behind a `-`, or alone, if it is from `-most - 1` to `most`.
+pub fn signed_up_to(text: &[u8], most: u64) -> Option<i128>
+    ensures value { result ≡ signed_up_to most text.now }
+    ensures within { IfSome result (λ z. (negsuc most ≤ℤ z) × (z ≤ℤ pos most)) }
+{
+    let z = signed(text)?;
+    let most = i128::from(most);
+    if -most - 1 <= z && z <= most {
+        Some(z)
+    } else {
+        None
+    }
+}
+
+// The same without bounds.
+#[tactic(auto, unfolding(crate::specs::DecimalNumbers::signed_of))]
+fn signed(text: &[u8]) -> Option<i128>
+    ensures { result ≡ signed_of text.now }
+{
+    match text {
+        [] => None,
+        [b'-', digits @ ..] => Some(-i128::from(number(digits)?)),
+        _ => Some(i128::from(number(text)?)),
+    }
 }
 
 // The number that digits write, if it fits 64 bits.

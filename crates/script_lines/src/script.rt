@@ -33,6 +33,8 @@ pub struct Script {
     pub byte_counts: Sequence<(u64, u64)>,
     /// The calls that the coder fails, by their numbers from 0.
     pub faults: Sequence<u64>,
+    /// Frames, and the mean scale of each; the last for a frame counts.
+    pub scales: Sequence<(u64, i64)>,
     /// What the report has besides.
     pub prints: Sequence<Print>,
     /// The calls, in order.
@@ -124,6 +126,7 @@ impl Draft {
                 cuts: Sequence::new(alloc),
                 byte_counts: Sequence::new(alloc),
                 faults: Sequence::new(alloc),
+                scales: Sequence::new(alloc),
                 prints: Sequence::new(alloc),
                 calls: Sequence::new(alloc),
             },
@@ -174,6 +177,7 @@ impl Draft {
             Answer::Cut(frame) => self.script.cuts.push(frame)?,
             Answer::ByteCount { frame, count } => self.script.byte_counts.push((frame, count))?,
             Answer::Fault(call) => self.script.faults.push(call)?,
+            Answer::Scale { frame, value } => self.script.scales.push((frame, value))?,
         }
         Ok(true)
     }

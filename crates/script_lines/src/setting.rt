@@ -1,9 +1,9 @@
 ghost use Rattle.std.specs.Prelude.{◌≡◌, pos, bytes_eq};
 ghost use Rattle.std.specs.Option.{option_map};
-ghost use Rattle.script_lines.specs.DecimalNumbers.{number_up_to};
+ghost use Rattle.script_lines.specs.DecimalNumbers.{number_up_to, signed_up_to};
 ghost use Rattle.script_lines.specs.SettingLines.{flag_of, sampling_of, setting_of_none, setting_of_one, setting_of_two, with_setting};
 
-use crate::number::{number, number_up_to};
+use crate::number::{number, number_up_to, signed_up_to};
 use av1_frame::ChromaSampling;
 use av1_settings::{EncoderConfig, Rational};
 
@@ -62,6 +62,8 @@ pub enum Setting {
     Quantizer(usize),
     /// The least quantizer index.
     MinQuantizer(u8),
+    /// Bits a second; 0 and below for none.
+    Bitrate(i32),
     /// The frames over which the bit reservoir evens out.
     ReservoirDelay(i32),
 }
@@ -113,6 +115,9 @@ impl Setting {
         }
         if is(word, "minq") {
             return Some(Setting::MinQuantizer(byte(text)?));
+        }
+        if is(word, "bitrate") {
+            return Some(Setting::Bitrate(bits(text)?));
         }
         if is(word, "reservoir") {
             return Some(Setting::ReservoirDelay(delay(text)?));
@@ -175,6 +180,7 @@ impl Setting {
             Setting::Level(index) => enc.level_idx = Some(index),
             Setting::Quantizer(index) => enc.quantizer = index,
             Setting::MinQuantizer(index) => enc.min_quantizer = index,
+            Setting::Bitrate(bits) => enc.bitrate = bits,
             Setting::ReservoirDelay(frames) => enc.reservoir_frame_delay = Some(frames),
         }
     }
@@ -192,6 +198,14 @@ fn delay(text: &[u8]) -> Option<i32>
     ensures { result ≡ option_map pos (number_up_to 0x7fff_ffff text.now) }
 {
     let number = number_up_to(text, i32::MAX as u64)?;
+    Some(number as i32)
+}
+
+// A number of bits that fits an `i32`, with its sign.
+fn bits(text: &[u8]) -> Option<i32>
+    ensures { result ≡ signed_up_to 0x7fff_ffff text.now }
+{
+    let number = signed_up_to(text, i32::MAX as u64)?;
     Some(number as i32)
 }
 

@@ -7,30 +7,11 @@ use super::*;
 use std::alloc::Global;
 use std::test::Fail;
 
-// The first of these texts that is a script.
-fn first_read<'a>(alloc: Global, texts: &[&'a str]) -> Option<&'a str> {
+// The first of these texts whose first bad line has another number; a script has none.
+fn first_other<'a>(alloc: Global, texts: &[&'a str], line: Option<u64>) -> Option<&'a str> {
+    let error = line.map(ScriptError::BadLine);
     for text in texts {
-        if parse(alloc, text.as_bytes()).is_ok() {
-            return Some(*text);
-        }
-    }
-    None
-}
-
-// The first of these texts that is no script.
-fn first_refused<'a>(alloc: Global, texts: &[&'a str]) -> Option<&'a str> {
-    for text in texts {
-        if parse(alloc, text.as_bytes()).is_err() {
-            return Some(*text);
-        }
-    }
-    None
-}
-
-// The first of these texts whose first bad line has another number.
-fn first_other<'a>(alloc: Global, texts: &[&'a str], line: u64) -> Option<&'a str> {
-    for text in texts {
-        if parse(alloc, text.as_bytes()).err() != Some(ScriptError::BadLine(line)) {
+        if parse(alloc, text.as_bytes()).err() != error {
             return Some(*text);
         }
     }
@@ -39,15 +20,12 @@ fn first_other<'a>(alloc: Global, texts: &[&'a str], line: u64) -> Option<&'a st
 
 #[test]
 fn a_script_has_settings_and_calls(rt: HostRuntime) -> Result<(), Fail> {
-    let text = b"rdo 10\n# few keys\nkeyint 3 0\nsize 64 80\n\nsend 2\nsendkey\nflush\nreceive 2";
+    let text = b"rdo 10\n# few keys\nkeyint 3 0\nsummary 00ff0a\n\nsend 2\nsendkey\nflush\n\
+        sendsize 1 64\nsendopaque 18446744073709551615\nreceive 2";
     let script = parse(rt.alloc(), text)?;
     let settings = [
         Setting::Lookahead(10),
         Setting::KeyInterval { min: 3, max: 0 },
-        Setting::Size {
-            width: 64,
-            height: 80,
-        },
     ];
     assert_eq!(rt; script.settings.as_slice(), settings.as_slice());
     let calls = [
@@ -55,15 +33,33 @@ fn a_script_has_settings_and_calls(rt: HostRuntime) -> Result<(), Fail> {
         Action::Send,
         Action::SendKey,
         Action::Flush,
+        Action::SendSize {
+            width: 1,
+            height: 64,
+        },
+        Action::SendOpaque(u64::MAX),
         Action::Receive,
         Action::Receive,
     ];
     assert_eq!(rt; script.calls.as_slice(), calls.as_slice());
-    let enc = script.config()?.enc;
-    assert_eq!(rt; (enc.width, enc.height), (64, 80));
-    let interval = (enc.min_key_frame_interval, enc.max_key_frame_interval);
-    assert_eq!(rt; interval, (3, 715_827_882));
-    assert_eq!(rt; enc.speed_settings.rdo_lookahead_frames, 10);
+    let summary = script.summary.ok_or("no summary")?;
+    assert_eq!(rt; summary.as_slice(), [0, 255, 10].as_slice());
+    Ok(())
+}
+
+#[test]
+fn answers_may_be_repeated(rt: HostRuntime) -> Result<(), Fail> {
+    let text =
+        b"cut 3\nbytes 0 1\nfault 0\ncut 3\nscale 7 -12\nprint q\nbytes 0 4096\nprint bytes\n\
+        scale 7 012\nfault 7\nsend\n";
+    let script = parse(rt.alloc(), text)?;
+    assert_eq!(rt; script.cuts.as_slice(), [3, 3].as_slice());
+    let counts = [(0, 1), (0, 4096)];
+    assert_eq!(rt; script.byte_counts.as_slice(), counts.as_slice());
+    assert_eq!(rt; script.faults.as_slice(), [0, 7].as_slice());
+    assert_eq!(rt; script.scales.as_slice(), [(7, -12), (7, 12)].as_slice());
+    let prints = [Print::QuantizerIndex, Print::Bytes];
+    assert_eq!(rt; script.prints.as_slice(), prints.as_slice());
     Ok(())
 }
 

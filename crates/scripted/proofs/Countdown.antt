@@ -1,5 +1,5 @@
 -- How many calls are left before the first that fails.
-use Rattle.std.proofs.Common.{◌≡◌, ◌-◌, ℕ, List, [], length, map, min, Option, Some, None, option_map, refl, ap, subst, sym, ◌∙◌, arith}
+use Rattle.std.proofs.Common.{◌≡◌, ◌-◌, ℕ, List, [], length, map, min, Option, Some, None, option_map, refl, ap, ◌∙◌, arith}
 use Rattle.std.specs.List.{reduce}
 use Rattle.session_core.specs.Told.{CoderTold}
 use Rattle.scripted.specs.declared.coder.Given.{Given}

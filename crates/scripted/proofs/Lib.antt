@@ -1,2 +1,3 @@
 pub mod ByteBounds
 pub mod Countdown
+pub mod GoodTables

@@ -16,8 +16,14 @@ abbrev pub gave_bytes : List ℕ → Gave ℕ
 gave_bytes bytes = record { bytes = bytes; rec = None; stats = no_stats }
 
 abbrev pub told_of : Given → Told ℕ
-told_of (Coded command trial picture t35 bytes) = record {
-  handed = ToCode (record { command = command; trial = trial; picture = picture.value; t35 = t35.value });
+told_of (Coded command trial quant picture t35 bytes) = record {
+  handed = ToCode (record {
+    command = command;
+    trial = trial;
+    quant = Some quant;
+    picture = picture.value;
+    t35 = t35.value;
+  });
   gave = gave_bytes bytes;
 }
 told_of (Shown slot frame bytes) =

@@ -7,7 +7,7 @@ use av1_frame::Frame;
 use av1_settings::{EncoderStats, FrameType, T35List};
 use coding_base::{Bytes, OutOfMemory, Sequence};
 use pyramid::Command;
-use session_core::{CodeJob, CodedFrame, CoderError, FrameCoder, ShownFrame};
+use session_core::{CodeJob, CodedFrame, CoderError, FrameCoder, QuantizerParameters, ShownFrame};
 use std::alloc::Global;
 use std::sync::Arc;
 
@@ -20,6 +20,8 @@ pub enum Given {
         command: Command,
         /// Whether it was only tried.
         trial: bool,
+        /// The quantisers that were handed over.
+        quant: QuantizerParameters,
         /// The picture that was handed over.
         picture: Arc<Frame<u8>>,
         /// The metadata that was handed over.
@@ -203,6 +205,7 @@ impl ScriptedCoder {
         self.keep(Given::Coded {
             command: job.command,
             trial: job.trial,
+            quant: job.quant,
             picture,
             t35,
             bytes: kept,

@@ -2,10 +2,21 @@ use super::*;
 use av1_frame::{ChromaSampling, Frame};
 use av1_settings::{FrameType, SceneDetectionSpeed, T35List};
 use pyramid::{Command, Refs};
-use session_core::{CodeJob, CoderError, Detector, FrameCoder};
+use session_core::{CodeJob, CoderError, Detector, FrameCoder, MeanScale, QuantizerParameters};
 use std::alloc::Global;
 use std::sync::Arc;
 use std::test::Fail;
+
+// Quantisers, which change nothing of what the coder gives.
+const QUANT: QuantizerParameters = QuantizerParameters {
+    log_base_q: 1,
+    log_target_q: 2,
+    dc_qi: [3, 4, 5],
+    ac_qi: [6, 7, 8],
+    searched_q: None,
+    lambda_q57: 9,
+    dist_scale_q16: [10, 11, 12],
+};
 
 #[test]
 fn frames_and_shows_have_their_bytes(rt: HostRuntime) -> Result<(), Fail> {
@@ -28,6 +39,7 @@ fn frames_and_shows_have_their_bytes(rt: HostRuntime) -> Result<(), Fail> {
                 shown: true,
             },
             trial: false,
+            quant: QUANT,
             picture: picture.clone()?,
             t35: Arc::new(alloc, T35List::new(alloc))?,
         };
@@ -94,6 +106,7 @@ fn job(alloc: Global, picture: &Arc<Frame<u8>>, frame: u64) -> Result<CodeJob<u8
             shown: true,
         },
         trial: false,
+        quant: QUANT,
         picture: picture.clone()?,
         t35: Arc::new(alloc, T35List::new(alloc))?,
     })
@@ -129,4 +142,33 @@ fn the_least_fault_comes_first(rt: HostRuntime) -> Result<(), Fail> {
     assert_eq!(rt; failed.err(), Some(CoderError::Failed));
     assert_eq!(rt; coder.faults(), 2);
     Ok(())
+}
+
+#[test]
+fn the_last_scale_for_a_frame_is_its_own(rt: HostRuntime) -> Result<(), Fail> {
+    let alloc = rt.alloc();
+    let frame: Frame<u8> = Frame::new(alloc, 16, 16, ChromaSampling::Cs420)?;
+    let picture = Arc::new(alloc, frame)?;
+    let mut scales = ScriptedScales::new(alloc, &[(4, 7), (1, i64::MIN), (4, -3)])?;
+    for (number, wanted) in [(4, -3), (0, 0), (1, i64::MIN)] {
+        let answer = scales.log_isqrt_mean_scale(alloc, number, &picture)?;
+        assert_eq!(rt; answer, wanted);
+    }
+    let mut kept = Vec::new(alloc);
+    for measured in scales.measured() {
+        kept.push((measured.number, measured.answer))?;
+    }
+    assert_eq!(rt;
+        kept.as_slice(),
+        [(4, -3), (0, 0), (1, i64::MIN)].as_slice()
+    );
+    Ok(())
+}
+
+#[test]
+fn tables_step_by_eight(rt: HostRuntime) {
+    let tables = scripted_tables();
+    for (index, value) in [(0, 8), (1, 16), (100, 808), (255, 2048)] {
+        assert_eq!(rt; (tables.ac(index), tables.dc(index)), (value, value));
+    }
 }

@@ -57,6 +57,7 @@ fn packet<T>(alloc: Global, input_frameno: u64) -> Result<Packet<T, u64>, OutOfM
         source: None,
         input_frameno,
         frame_type: FrameType::KEY,
+        qp: 0,
         enc_stats: EncoderStats::default(),
         opaque: None,
     })

@@ -1,24 +1,26 @@
 -- What the loop over the calls of a session keeps, and what it comes to.
-use Rattle.std.proofs.Common.{◌≡◌, ℕ, ◌≤◌, Bool, List, [], ◌∷◌, ◌++◌, length, take, drop, Option, Some, refl, sym, ap, ap₂, ◌∙◌, subst, subst₂, append-nil, take-append-drop}
+use Rattle.std.proofs.Common.{◌≡◌, ℕ, ℤ, ◌≤◌, Bool, List, [], ◌∷◌, ◌++◌, length, take, drop, Option, Some, refl, sym, ap, ap₂, ◌∙◌, subst, subst₂, append-nil, take-append-drop}
 use Rattle.std.specs.List.{flat_map, slice_get}
 use Rattle.std.proofs.Math.Seq.{take-append_seam}
 use Rattle.std.proofs.lemmas.List.{length-append}
 use Rattle.coding_base.specs.Faults.{Rose}
 use Rattle.coding_base.proofs.FaultLemmas.{rose-after}
 use Rattle.coding_base.proofs.RunLemmas.{runs-length, runs-push, after-push}
+use Rattle.av1_frame.specs.declared.frame.Frame.{Frame}
 use Rattle.av1_settings.specs.declared.encoder.EncoderConfig.{EncoderConfig}
 use Rattle.av1_settings.specs.declared.invalid.InvalidConfig.{InvalidConfig}
 use Rattle.pyramid.specs.Display.{empty_slots}
+use Rattle.quantizers.specs.Tables.{Tables}
 use Rattle.session_core.specs.declared.call.Call.{Call}
 use Rattle.session_core.specs.declared.call.Call.TheVariants.{Send, Flush, Receive}
 use Rattle.session_core.specs.declared.fault.SessionFault.{SessionFault}
 use Rattle.session_core.specs.declared.fault.SessionFault.TheVariants.{Coder, OutOfMemory}
 use Rattle.session_core.specs.declared.packet.Packet.{Packet}
 use Rattle.session_core.specs.declared.session.SessionError.{SessionError}
-use Rattle.session_core.specs.declared.session.SessionError.TheVariants.{CoderFault, Invalid, OutOfMemory as NoMemory, Unbuilt}
+use Rattle.session_core.specs.declared.session.SessionError.TheVariants.{CoderFault, Invalid, OutOfMemory as NoMemory}
 use Rattle.session_core.specs.declared.state.SessionState.{SessionState}
 use Rattle.session_core.specs.declared.transcript.Decision.{Decision}
-use Rattle.session_core.specs.declared.transcript.LogEntry.{LogEntry}
+use Rattle.session_log.specs.declared.entry.LogEntry.{LogEntry}
 use Rattle.session_core.specs.declared.transcript.Reply.{Reply}
 use Rattle.session_core.specs.declared.transcript.Reply.TheVariants.{Sent, Flushed, Packet as GivesPacket, Status}
 use Rattle.session_core.specs.declared.transcript.Transcript.{Transcript}
@@ -27,36 +29,46 @@ use Rattle.session_core.specs.Answers.{Codes, FailsAt, error_of}
 use Rattle.session_core.specs.Held.{Leads}
 use Rattle.session_core.specs.Moments.{Moment, opening, plan_at}
 use Rattle.session_core.specs.Questions.{AreAnswered, IsAsked, questions, questions_in}
-use Rattle.session_core.specs.Sessions.{AreTurns, AreKeyDecisions, Headline, IsSessionRun, KeepsSchedule, moment_after, accepted_in, commands_of, entries_of, handed_entries, packets_of}
+use Rattle.session_core.specs.Quantisers.{AreSelected, IsQuantised}
+use Rattle.session_core.specs.Scales.{AreScaled, frame_of, frames_of, picture_at, scales_of}
+use Rattle.session_core.specs.Sessions.{AreQuantised, AreTurns, AreKeyDecisions, Headline, IsSessionRun, KeepsSchedule, moment_after, accepted_in, commands_of, entries_of, handed_entries, packets_of, picture_sent}
 use Rattle.session_core.specs.States.{moment_of, IsKept, IsReady}
 use Rattle.session_core.specs.Steps.{AreSteps, Fails, IsStep}
 use Rattle.session_core.specs.Taken.{IsTaken, handed_at}
 use Rattle.session_core.specs.Told.{Counts, DetectorTold, FailsBehind, Grew, Handed, Heard, IsLater}
 use Rattle.session_core.specs.Turns.{BeginTrials, IsTurn, after_receive, after_turn}
+use Rattle.session_core.proofs.Quantising.{logged-all, widen-quantised}
 use Rattle.session_core.proofs.RunHistory.{entries-push, packets-push}
+use Rattle.session_core.proofs.Scaling.{scaled_turns, scaled_turns-push, scaled-all, scaled-next, scaled-none, scaled-then, scales-append, widen-scaled}
 use Rattle.session_core.proofs.SessionLaws.{handed_turns, handed_turns-push, handed-all, handed-tried, ready-of, on-plan, headline-of, keys-of, asked-turn, schedule-of, widen, widen-handed}
 use Rattle.session_core.proofs.Telling.{answered-append, answered-none, counts-fault, counts-none, counts-then, counts-within, grew-none, grew-then, later-same, later-then, taken-none, taken-then}
 
 -- ---- the loop
 
--- the calls so far were answered, the state is what they leave, the coder took what they coded, and the detector was asked
--- of their decisions
-pub record Carried {T O : Type 0} (enc : EncoderConfig) (done : List (Call T O)) (turns : List (Turn T O)) (state : SessionState T O) (before now : Heard T) : Type 0 where
+-- the calls so far were answered, the state is what they leave, the coder took what they coded, mean scales were asked for
+-- what they coded for good, and the detector was asked of their decisions
+pub record Carried {T O : Type 0} (enc : EncoderConfig) (tables : Tables) (done : List (Call T O)) (turns : List (Turn T O)) (state : SessionState T O) (before now : Heard T) : Type 0 where
   pub leads : Leads enc done turns (moment_of state)
-  pub steps : AreSteps enc done turns opening (moment_of state) before now
+  pub steps : AreSteps enc tables done turns opening (moment_of state) before now
   pub kept : IsKept enc state
+  pub tables_are : state.rate.tables ≡ tables
+  pub quantised : AreQuantised enc tables state.decisions.items done turns
+  pub scaled : AreScaled (scaled_turns enc state.decisions.items opening done turns) (scales_of (entries_of turns)) before.scales now.scales
   pub taken : IsTaken (handed_turns enc state.decisions.items opening done turns) (entries_of turns) (packets_of turns) before.coder now.coder
   pub counted : Counts before.coder.fails_after now.coder.fails_after (length (entries_of turns))
   pub asked : IsAsked enc (accepted_in done turns) state.decisions.items before now
   pub later : IsLater before now
 
-pub carried-opening : {T O : Type 0} (enc : EncoderConfig) (turns : List (Turn T O)) (state : SessionState T O) (heard : Heard T) →
-    turns ≡ [] → moment_of state ≡ opening → IsKept enc state → Carried {T = T} {O = O} enc [] turns state heard heard
-carried-opening {T} {O} enc turns state heard none opened kept =
-    subst (λ (t : List (Turn T O)). Carried {T = T} {O = O} enc [] t state heard heard) (sym none) (record {
+pub carried-opening : {T O : Type 0} (enc : EncoderConfig) (tables : Tables) (turns : List (Turn T O)) (state : SessionState T O) (heard : Heard T) →
+    turns ≡ [] → moment_of state ≡ opening → IsKept enc state → state.rate.tables ≡ tables → Carried {T = T} {O = O} enc tables [] turns state heard heard
+carried-opening {T} {O} enc tables turns state heard none opened kept same =
+    subst (λ (t : List (Turn T O)). Carried {T = T} {O = O} enc tables [] t state heard heard) (sym none) (record {
       leads = record { answered = tt; leads = opened };
       steps = (opened, refl);
       kept = kept;
+      tables_are = same;
+      quantised = tt;
+      scaled = scaled-none heard.scales;
       taken = taken-none heard.coder;
       counted = counts-none heard.coder.fails_after;
       asked = subst (λ (d : List Decision). IsAsked {T = T} {O = O} enc [] d heard heard) (sym undecided)
@@ -120,31 +132,43 @@ module _ {T O : Type 0} (enc : EncoderConfig) (done : List (Call T O)) (turns : 
         ∙ sym (after-push (IsTurn enc whole) (after_turn enc whole) opening done turns call turn answered);
   }
 
+  -- so far each turn has the quantisers selected at its moment
+  pub quantised-kept : (tables : Tables) → AreQuantised enc tables before.decisions done turns → AreQuantised enc tables whole done turns
+  quantised-kept tables quantised =
+      subst (λ (d : List Decision). AreQuantised enc tables d done turns) grown (widen-quantised enc tables before.decisions done turns new led.answered quantised)
+
+  -- the frames that were scaled so far, by the decisions after the call
+  pub scaled-kept : scaled_turns enc whole opening done turns ≡ scaled_turns enc before.decisions opening done turns
+  scaled-kept = ap (λ (d : List Decision). scaled_turns enc d opening done turns) (sym grown) ∙ widen-scaled enc before.decisions done turns new led.answered
+
   -- what was handed over so far, by the decisions after the call
   pub handed-kept : handed_turns enc whole opening done turns ≡ handed_turns enc before.decisions opening done turns
   handed-kept = ap (λ (d : List Decision). handed_turns enc d opening done turns) (sym grown) ∙ widen-handed enc before.decisions done turns new led.answered
 
 -- one more step
-steps-push : {T O : Type 0} (enc : EncoderConfig) (done : List (Call T O)) (turns : List (Turn T O)) (call : Call T O) (turn : Turn T O)
-    (before middle after : Moment T O) (told now then : Heard T) → AreSteps enc done turns before middle told now → IsStep enc call turn middle after now then →
-    AreSteps enc (done ++ call ∷ []) (turns ++ turn ∷ []) before after told then
-steps-push {T} {O} enc [] [] call turn before middle after told now then (same, silent) step =
-    (after, then, subst₂ (λ (m : Moment T O) (h : Heard T). IsStep enc call turn m after h then) same silent step, (refl, refl))
-steps-push enc [] (other ∷ turns) call turn before middle after told now then steps step = absurd steps
-steps-push enc (first ∷ done) [] call turn before middle after told now then steps step = absurd steps
-steps-push enc (first ∷ done) (other ∷ turns) call turn before middle after told now then (next, heard, one, rest) step =
-    (next, heard, one, steps-push enc done turns call turn next middle after heard now then rest step)
+steps-push : {T O : Type 0} (enc : EncoderConfig) (tables : Tables) (done : List (Call T O)) (turns : List (Turn T O)) (call : Call T O) (turn : Turn T O)
+    (before middle after : Moment T O) (told now then : Heard T) → AreSteps enc tables done turns before middle told now → IsStep enc tables call turn middle after now then →
+    AreSteps enc tables (done ++ call ∷ []) (turns ++ turn ∷ []) before after told then
+steps-push {T} {O} enc tables [] [] call turn before middle after told now then (same, silent) step =
+    (after, then, subst₂ (λ (m : Moment T O) (h : Heard T). IsStep enc tables call turn m after h then) same silent step, (refl, refl))
+steps-push enc tables [] (other ∷ turns) call turn before middle after told now then steps step = absurd steps
+steps-push enc tables (first ∷ done) [] call turn before middle after told now then steps step = absurd steps
+steps-push enc tables (first ∷ done) (other ∷ turns) call turn before middle after told now then (next, heard, one, rest) step =
+    (next, heard, one, steps-push enc tables done turns call turn next middle after heard now then rest step)
 
 -- one more call
-pub carried-step : {T O : Type 0} (enc : EncoderConfig) (done : List (Call T O)) (turns all : List (Turn T O)) (state after : SessionState T O)
+pub carried-step : {T O : Type 0} (enc : EncoderConfig) (tables : Tables) (done : List (Call T O)) (turns all : List (Turn T O)) (state after : SessionState T O)
     (before now then : Heard T) (call : Call T O) (turn : Turn T O) → 1 ≤ enc.speed_settings.rdo_lookahead_frames →
-    Carried enc done turns state before now → IsStep enc call turn (moment_of state) (moment_of after) now then → IsKept enc after → IsLater now then →
-    all ≡ turns ++ turn ∷ [] → Carried enc (done ++ call ∷ []) all after before then
-carried-step {T} {O} enc done turns all state after before now then call turn looks carried step kept later put =
-    subst (λ (t : List (Turn T O)). Carried enc (done ++ call ∷ []) t after before then) (sym put) (record {
+    Carried enc tables done turns state before now → IsStep enc state.rate.tables call turn (moment_of state) (moment_of after) now then → IsKept enc after →
+    after.rate.tables ≡ state.rate.tables → IsLater now then → all ≡ turns ++ turn ∷ [] → Carried enc tables (done ++ call ∷ []) all after before then
+carried-step {T} {O} enc tables done turns all state after before now then call turn looks carried stepped kept stays later put =
+    subst (λ (t : List (Turn T O)). Carried enc tables (done ++ call ∷ []) t after before then) (sym put) (record {
       leads = leads-step enc done turns was is call turn carried.leads step.answered step.moment;
-      steps = steps-push enc done turns call turn opening was is before now then carried.steps step;
+      steps = steps-push enc tables done turns call turn opening was is before now then carried.steps step;
       kept = kept;
+      tables_are = stays ∙ carried.tables_are;
+      quantised = quantised;
+      scaled = scaled;
       taken = taken;
       counted = subst (Counts before.coder.fails_after then.coder.fails_after) (sym (ap (λ (l : List LogEntry). length l) entries ∙ length-append (entries_of turns) turn.log))
           (counts-then before.coder.fails_after now.coder.fails_after then.coder.fails_after (length (entries_of turns)) (length turn.log) carried.counted step.counted);
@@ -152,6 +176,9 @@ carried-step {T} {O} enc done turns all state after before now then call turn lo
       later = later-then before now then carried.later later;
     })
   where
+    step : IsStep enc tables call turn (moment_of state) (moment_of after) now then
+    step = subst (λ (t : Tables). IsStep enc t call turn (moment_of state) (moment_of after) now then) carried.tables_are stepped
+
     was : Moment T O
     was = moment_of state
 
@@ -193,6 +220,25 @@ carried-step {T} {O} enc done turns all state after before now then call turn lo
         (sym entries) (sym (packets-push turns turn))
         (taken-then before.coder now.coder then.coder _ _ _ _ _ _ carried.taken step.taken))
 
+    quantised : AreQuantised enc tables whole (done ++ call ∷ []) (turns ++ turn ∷ [])
+    quantised =
+        runs-push (λ (m : Moment T O) (c : Call T O) (t : Turn T O). IsQuantised enc tables m t) (after_turn enc whole) opening done turns call turn
+        (quantised-kept enc done turns was is call turn carried.leads step.answered step.moment tables carried.quantised)
+        (subst (λ (m : Moment T O). IsQuantised enc tables m turn) at step.quantised)
+
+    frames : scaled_turns enc whole opening (done ++ call ∷ []) (turns ++ turn ∷ [])
+        ≡ scaled_turns enc old opening done turns ++ frames_of (picture_at was) turn.log
+    frames =
+        scaled_turns-push enc whole done turns call turn same
+        ∙ ap₂ (λ (f : List (ℕ × Frame T)) (m : Moment T O). f ++ frames_of (picture_at m) turn.log)
+        (scaled-kept enc done turns was is call turn carried.leads step.answered step.moment) (sym at)
+
+    scaled : AreScaled (scaled_turns enc whole opening (done ++ call ∷ []) (turns ++ turn ∷ [])) (scales_of (entries_of (turns ++ turn ∷ []))) before.scales then.scales
+    scaled =
+        subst₂ (λ (f : List (ℕ × Frame T)) (s : List ℤ). AreScaled f s before.scales then.scales)
+        (sym frames) (sym (ap scales_of entries ∙ scales-append (entries_of turns) turn.log))
+        (scaled-then _ _ before.scales now.scales _ _ then.scales carried.scaled step.scaled)
+
     -- the questions of this call join those before
     all_asked : questions enc (accepted_in (done ++ call ∷ []) (turns ++ turn ∷ [])) whole
         ≡ questions enc (accepted_in done turns) old ++ questions_in enc was is
@@ -222,15 +268,18 @@ leads-ready {T} {O} enc done turns moment looks led =
 
 -- ---- the end
 
-pub carried-session : {T O : Type 0} (enc : EncoderConfig) (calls : List (Call T O)) (transcript : Transcript T O) (state : SessionState T O) (before now : Heard T) →
-    Carried enc calls transcript.turns state before now → transcript.decisions ≡ state.decisions.items →
-    IsSessionRun enc calls transcript before now
-carried-session {T} {O} enc calls transcript state before now carried same = record {
+pub carried-session : {T O : Type 0} (enc : EncoderConfig) (tables : Tables) (calls : List (Call T O)) (transcript : Transcript T O) (state : SessionState T O) (before now : Heard T) →
+    Carried enc tables calls transcript.turns state before now → transcript.decisions ≡ state.decisions.items →
+    IsSessionRun enc tables calls transcript before now
+carried-session {T} {O} enc tables calls transcript state before now carried same = record {
   turns = subst (λ (d : List Decision). AreTurns enc d calls turns) (sym same) carried.leads.answered;
   decided = subst (λ (d : List Decision). d ≡ (moment_after enc d calls turns).decisions) (sym same) decided;
   keys = subst (AreKeyDecisions (accepted_in calls turns)) (sym same) (keys-of enc decisions calls turns carried.leads.answered decided);
   asked = subst (λ (d : List Decision). IsAsked enc (accepted_in calls turns) d before now) (sym same) carried.asked;
   headline = subst (λ (d : List Decision). Headline enc d calls turns) (sym same) (headline-of enc decisions calls turns carried.leads.answered);
+  quantised = subst (λ (d : List Decision). AreQuantised enc tables d calls turns) (sym same) carried.quantised;
+  scaled = subst (λ (frames : List (ℕ × Frame T)). AreScaled frames (scales_of (entries_of turns)) before.scales now.scales)
+      (scaled-all enc decisions calls turns carried.leads.answered) carried.scaled;
   taken = subst (λ (jobs : List (Handed T)). IsTaken jobs (entries_of turns) (packets_of turns) before.coder now.coder)
       (handed-all enc decisions calls turns carried.leads.answered) carried.taken;
   unreached = counts-within before.coder.fails_after now.coder.fails_after (length (entries_of turns)) carried.counted;
@@ -245,16 +294,16 @@ carried-session {T} {O} enc calls transcript state before now carried same = rec
     decided : decisions ≡ (moment_after enc decisions calls turns).decisions
     decided = ap (λ (m : Moment T O). m.decisions) carried.leads.leads
 
-pub carried-steps : {T O : Type 0} (enc : EncoderConfig) (calls : List (Call T O)) (transcript : Transcript T O) (state : SessionState T O) (before now : Heard T) →
-    Carried enc calls transcript.turns state before now → transcript.decisions ≡ state.decisions.items →
-    AreSteps enc calls transcript.turns opening (moment_after enc transcript.decisions calls transcript.turns) before now
-carried-steps {T} {O} enc calls transcript state before now carried same =
-    subst (λ (m : Moment T O). AreSteps enc calls transcript.turns opening m before now)
+pub carried-steps : {T O : Type 0} (enc : EncoderConfig) (tables : Tables) (calls : List (Call T O)) (transcript : Transcript T O) (state : SessionState T O) (before now : Heard T) →
+    Carried enc tables calls transcript.turns state before now → transcript.decisions ≡ state.decisions.items →
+    AreSteps enc tables calls transcript.turns opening (moment_after enc transcript.decisions calls transcript.turns) before now
+carried-steps {T} {O} enc tables calls transcript state before now carried same =
+    subst (λ (m : Moment T O). AreSteps enc tables calls transcript.turns opening m before now)
     (carried.leads.leads ∙ ap (λ (d : List Decision). moment_after enc d calls transcript.turns) (sym same)) carried.steps
 
-pub session-schedule : {T O : Type 0} (enc : EncoderConfig) (calls : List (Call T O)) (transcript : Transcript T O) (before now : Heard T) →
-    IsSessionRun enc calls transcript before now → KeepsSchedule enc calls transcript
-session-schedule enc calls transcript before now run = schedule-of enc calls transcript run.turns run.decided
+pub session-schedule : {T O : Type 0} (enc : EncoderConfig) (tables : Tables) (calls : List (Call T O)) (transcript : Transcript T O) (before now : Heard T) →
+    IsSessionRun enc tables calls transcript before now → KeepsSchedule enc calls transcript
+session-schedule enc tables calls transcript before now run = schedule-of enc calls transcript run.turns run.decided
 
 -- ---- a call that fails
 
@@ -262,16 +311,17 @@ get-behind : {A : Type 0} (done rest : List A) (x : A) → slice_get (done ++ x 
 get-behind [] rest x = refl
 get-behind (y ∷ done) rest x = get-behind done rest x
 
-pub carried-fault : {T O : Type 0} (enc : EncoderConfig) (done rest calls : List (Call T O)) (turns : List (Turn T O)) (state : SessionState T O)
+pub carried-fault : {T O : Type 0} (enc : EncoderConfig) (tables : Tables) (done rest calls : List (Call T O)) (turns : List (Turn T O)) (state : SessionState T O)
     (before now then : Heard T) (call : Call T O) (number : ℕ) →
-    Carried enc done turns state before now → done ++ call ∷ rest ≡ calls →
-    Fails enc call (moment_of state) now then (Coder number) → FailsAt enc calls before then number
-carried-fault {T} {O} enc done rest calls turns state before now then call number carried joined (receives, fault, silent) = record {
+    Carried enc tables done turns state before now → done ++ call ∷ rest ≡ calls →
+    Fails enc tables call (moment_of state) now then (Coder number) → FailsAt enc tables calls before then number
+carried-fault {T} {O} enc tables done rest calls turns state before now then call number carried joined (receives, fault) = record {
   done = length done;
   turns = turns;
   decisions = decisions;
   command = fault.command;
   trials = fault.trials;
+  scales = fault.scales;
   at_receive = ap (λ (l : List (Call T O)). slice_get l (length done)) (sym joined) ∙ get-behind done rest call
       ∙ ap (λ (c : Call T O). Some c) receives;
   answered = facts.0;
@@ -282,7 +332,11 @@ carried-fault {T} {O} enc done rest calls turns state before now then call numbe
   coded = planned.1 ∙ commands;
   first = facts.5;
   tried = facts.6;
-  taken = facts.7;
+  quantised = facts.7;
+  selected = facts.8;
+  scaled = facts.9;
+  alike = fault.alike;
+  taken = facts.10;
   reached = subst (FailsBehind before.coder.fails_after) (sym (length-append (entries_of turns) fault.trials))
       (counts-fault before.coder.fails_after now.coder.fails_after (length (entries_of turns)) (length fault.trials) carried.counted fault.reached);
   rose = rose-after before.coder.faults now.coder.faults then.coder.faults carried.later.coder.faults fault.rose;
@@ -320,13 +374,29 @@ carried-fault {T} {O} enc done rest calls turns state before now then call numbe
         jobs (append-nil (packets_of turns))
         (taken-then before.coder now.coder then.coder _ _ _ _ _ _ carried.taken fault.taken)
 
+    logged : moment.log ≡ entries_of turns
+    logged = logged-all enc decisions done turns carried.leads.answered
+
+    selected : AreSelected enc tables moment (entries_of turns) fault.trials
+    selected =
+        subst (λ (l : List LogEntry). AreSelected enc tables moment l fault.trials) logged
+        (subst (λ (m : Moment T O). AreSelected enc tables m m.log fault.trials) at fault.selected)
+
+    scaled : AreScaled (frames_of (picture_sent (accepted_in done turns)) (entries_of turns) ++ frame_of (picture_sent (accepted_in done turns)) fault.command)
+        (scales_of (entries_of turns) ++ fault.scales) before.scales then.scales
+    scaled =
+        subst₂ (λ (f g : List (ℕ × Frame T)). AreScaled (f ++ g) (scales_of (entries_of turns) ++ fault.scales) before.scales then.scales)
+        (scaled-all enc decisions done turns carried.leads.answered)
+        (ap (λ (m : Moment T O). frame_of (picture_at m) fault.command) at ∙ scaled-next enc decisions done turns number fault.command carried.leads.answered codes_here)
+        (scaled-then _ _ before.scales now.scales _ _ then.scales carried.scaled fault.scaled)
+
     decided : decisions ≡ moment.decisions
     decided = ap (λ (m : Moment T O). m.decisions) at
 
     -- a receive asks nobody
     asked : IsAsked enc (accepted_in done turns) decisions before then
     asked = record {
-      grew = subst (λ (d : DetectorTold T). Grew before.detector.questions d.questions (questions enc (accepted_in done turns) decisions)) (sym silent) carried.asked.grew;
+      grew = subst (λ (d : DetectorTold T). Grew before.detector.questions d.questions (questions enc (accepted_in done turns) decisions)) (sym fault.unasked) carried.asked.grew;
       ahead = carried.asked.ahead;
     }
 
@@ -339,6 +409,10 @@ carried-fault {T} {O} enc done rest calls turns state before now then call numbe
         × Codes enc (moment_after enc decisions first turns) number fault.command
         × (commands_of turns ≡ take number (plan_at enc (moment_after enc decisions first turns)))
         × BeginTrials enc (moment_after enc decisions first turns) fault.command fault.trials
+        × AreQuantised enc tables decisions first turns
+        × AreSelected enc tables (moment_after enc decisions first turns) (entries_of turns) fault.trials
+        × AreScaled (frames_of (picture_sent (accepted_in first turns)) (entries_of turns) ++ frame_of (picture_sent (accepted_in first turns)) fault.command)
+        (scales_of (entries_of turns) ++ fault.scales) before.scales then.scales
         × IsTaken (handed_entries (accepted_in first turns) empty_slots (entries_of turns ++ fault.trials)) (entries_of turns ++ fault.trials) (packets_of turns) before.coder then.coder
 
     same : take (length done) calls ≡ done
@@ -353,31 +427,32 @@ carried-fault {T} {O} enc done rest calls turns state before now then call numbe
       codes_here,
       planned.0 ∙ ap (λ (n : ℕ). take n (plan_at enc moment)) commands,
       begin_here,
+      carried.quantised,
+      selected,
+      scaled,
       taken,
     )
 
 -- what an error of the loop says
-pub record Stops {T O : Type 0} (enc : EncoderConfig) (calls : List (Call T O)) (before after : Heard T) (error : SessionError) : Type 0 where
+pub record Stops {T O : Type 0} (enc : EncoderConfig) (tables : Tables) (calls : List (Call T O)) (before after : Heard T) (error : SessionError) : Type 0 where
   pub valid : (v : InvalidConfig) → error ≡ Invalid v → ⊥
-  pub built : error ≡ Unbuilt → ⊥
-  pub fault : (command : ℕ) → error ≡ CoderFault command → FailsAt enc calls before after command
+  pub fault : (command : ℕ) → error ≡ CoderFault command → FailsAt enc tables calls before after command
   pub complete : ¬ Rose before.coder.faults after.coder.faults → error ≡ NoMemory
 
-pub carried-stop : {T O : Type 0} (enc : EncoderConfig) (done rest calls : List (Call T O)) (turns : List (Turn T O)) (state : SessionState T O)
+pub carried-stop : {T O : Type 0} (enc : EncoderConfig) (tables : Tables) (done rest calls : List (Call T O)) (turns : List (Turn T O)) (state : SessionState T O)
     (before now then : Heard T) (call : Call T O) (fault : SessionFault) →
-    Carried enc done turns state before now → done ++ call ∷ rest ≡ calls →
-    Fails enc call (moment_of state) now then fault → Stops enc calls before then (error_of fault)
-carried-stop enc done rest calls turns state before now then call OutOfMemory carried joined fails = record {
+    Carried enc tables done turns state before now → done ++ call ∷ rest ≡ calls →
+    Fails enc state.rate.tables call (moment_of state) now then fault → Stops enc tables calls before then (error_of fault)
+carried-stop enc tables done rest calls turns state before now then call OutOfMemory carried joined fails = record {
   valid = λ v is. cc;
-  built = λ is. cc;
   fault = λ command is. absurd (cc);
   complete = λ still. refl;
 }
-carried-stop enc done rest calls turns state before now then call (Coder number) carried joined fails =
-    let failed = carried-fault enc done rest calls turns state before now then call number carried joined fails in
+carried-stop enc tables done rest calls turns state before now then call (Coder number) carried joined fails =
+    let failed = carried-fault enc tables done rest calls turns state before now then call number carried joined
+    (subst (λ (t : Tables). Fails enc t call (moment_of state) now then (Coder number)) carried.tables_are fails) in
     record {
       valid = λ v is. cc;
-      built = λ is. cc;
-      fault = λ command is. let e : number ≡ command = cc in subst (λ (n : ℕ). FailsAt enc calls before then n) e failed;
+      fault = λ command is. let e : number ≡ command = cc in subst (λ (n : ℕ). FailsAt enc tables calls before then n) e failed;
       complete = λ still. absurd (still failed.rose);
     }

@@ -1,5 +1,5 @@
 -- Calls of a context: what one keeps, and what it answers.
-use Rattle.std.proofs.Common.{◌≡◌, ℕ, ◌-◌, length, ◌⊎◌, inl, inr, List, [], ◌∷◌, ◌++◌, Bool, true, false, MatchOption, MatchBool, IfOk, IfErr, Option, Some, None, is_some, Result, Ok, Err, refl, sym, ap, subst, arith}
+use Rattle.std.proofs.Common.{◌≡◌, ℕ, ◌-◌, length, ◌⊎◌, inl, inr, List, [], ◌∷◌, ◌++◌, Bool, true, false, MatchOption, MatchBool, IfOk, IfErr, Option, Some, None, is_some, Result, Ok, Err, refl, sym, ap, ◌∙◌, subst, arith}
 use Rattle.std.proofs.lemmas.List.{length-map}
 use Rattle.av1_frame.specs.declared.frame.Frame.{Frame}
 use Rattle.av1_settings.specs.declared.encoder.EncoderConfig.{EncoderConfig}
@@ -7,6 +7,9 @@ use Rattle.av1_settings.specs.declared.status.EncoderStatus.{EncoderStatus}
 use Rattle.av1_settings.specs.declared.status.EncoderStatus.TheVariants.{NeedMoreData, EnoughData, LimitReached, Encoded, Failure, NotReady, FrameSizeMismatch, OutOfMemory as NoMemory}
 use Rattle.av1_settings.specs.Checks.{IsValid}
 use Rattle.pyramid.specs.declared.command.Command.{Command}
+use Rattle.quantizers.specs.Tables.{Tables}
+use Rattle.ratecontrol.specs.Rate.{Rate}
+use Rattle.session_log.specs.Selection.{rate_after}
 use Rattle.session_core.specs.declared.call.Call.{Call}
 use Rattle.session_core.specs.declared.call.Call.TheVariants.{Send, Flush, Receive}
 use Rattle.session_core.specs.declared.call.FrameParameters.{FrameParameters}
@@ -15,7 +18,7 @@ use Rattle.session_core.specs.declared.fault.SessionFault.TheVariants.{Coder, Ou
 use Rattle.session_core.specs.declared.state.SessionState.{SessionState}
 use Rattle.session_core.specs.declared.transcript.Decision.{Decision}
 use Rattle.session_core.specs.declared.packet.Packet.{Packet}
-use Rattle.session_core.specs.declared.transcript.LogEntry.{LogEntry}
+use Rattle.session_log.specs.declared.entry.LogEntry.{LogEntry}
 use Rattle.session_core.specs.declared.transcript.Reply.{Reply}
 use Rattle.session_core.specs.declared.transcript.Reply.TheVariants.{Sent, Flushed, Packet as GivesPacket, Status}
 use Rattle.session_core.specs.declared.transcript.Turn.{Turn}
@@ -27,6 +30,7 @@ use Rattle.session_core.specs.Steps.{Fails, IsStep, Unused, WhereRefused}
 use Rattle.session_core.specs.Told.{Heard, IsLater}
 use Rattle.session_core.specs.Turns.{held_back, is_showing, IsNextPacket, IsTurn, CodesNext, OnlyReplies}
 use Rattle.session_core.proofs.CallLoop.{leads-ready, leads-step}
+use Rattle.session_core.proofs.Scheduling.{kept-rated}
 
 -- ---- what is kept
 
@@ -50,11 +54,16 @@ pub held-frames : {T O : Type 0} (enc : EncoderConfig) (state : SessionState T O
 held-frames enc state failure count held none size =
     omega (arith, size, (held-ready enc state failure held none).waits, length-map state.waiting.items waiting_of)
 
+-- the state of the rate controller is that of the moment's log
+pub held-rate : {T O : Type 0} (enc : EncoderConfig) (state : SessionState T O) (failure : Option SessionFault) (now : Rate) → IsHeld enc state failure →
+    now ≡ state.rate.state → failure ≡ None → now ≡ rate_after enc (moment_of state).log
+held-rate enc state failure now held is none = is ∙ (kept-rated enc state (held.kept none)).keeps.state
+
 -- one more call
-pub held-step : {T O : Type 0} (enc : EncoderConfig) (state after : SessionState T O) (failure failure_after : Option SessionFault) (call : Call T O) (turn : Turn T O)
-    (told now : Heard T) → IsHeld enc state failure → failure ≡ None → IsStep enc call turn (moment_of state) (moment_of after) told now → IsKept enc after →
+pub held-step : {T O : Type 0} (enc : EncoderConfig) (tables : Tables) (state after : SessionState T O) (failure failure_after : Option SessionFault) (call : Call T O) (turn : Turn T O)
+    (told now : Heard T) → IsHeld enc state failure → failure ≡ None → IsStep enc tables call turn (moment_of state) (moment_of after) told now → IsKept enc after →
     IsHeld enc after failure_after
-held-step enc state after failure failure_after call turn told now held none step kept =
+held-step enc tables state after failure failure_after call turn told now held none step kept =
     let (calls, turns, leads) = held.reached none in
     record {
       valid = held.valid;
@@ -73,7 +82,7 @@ held-failed enc state after failure failure_after fault held is = record {
 
 -- ---- what is answered
 
-module _ {T O D C A : Type 0} (Gives : Reply T O → Result A EncoderStatus → Type 0) (call : Call T O) (before after : Session T O D C) (told now : Heard T) (result : Result A EncoderStatus) where
+module _ {T O D S C A : Type 0} (Gives : Reply T O → Result A EncoderStatus → Type 0) (call : Call T O) (before after : Session T O D S C) (told now : Heard T) (result : Result A EncoderStatus) where
   abbrev CallOf : Option SessionFault → Type 0
   CallOf failure =
       MatchOption failure
@@ -90,18 +99,25 @@ module _ {T O D C A : Type 0} (Gives : Reply T O → Result A EncoderStatus → 
   call-refused fault some refused same = subst CallOf (sym some) (refused, same)
 
 -- in a session that has failed nothing is called
-pub call-of-failed : {T O D C : Type 0} (call : Call T O) (before : Session T O D C) (told now : Heard T) → is_some before.failure ≡ true →
+pub call-of-failed : {T O D S C : Type 0} (call : Call T O) (before : Session T O D S C) (told now : Heard T) → is_some before.failure ≡ true →
     IsCall GivesReply call before before told now (Err Failure)
-call-of-failed {T} {O} {D} {C} call before told now some = by_failure before.failure some
+call-of-failed {T} {O} {D} {S} {C} call before told now some = by_failure before.failure some
   where
     by_failure : (failure : Option SessionFault) → is_some failure ≡ true → CallOf GivesReply call before before told now (Err Failure) failure
     by_failure None some = absurd (cc)
     by_failure (Some fault) some = (refl, refl)
 
 -- the record of a context
-abbrev pub session_of : {T O D C : Type 0} → EncoderConfig → SessionState T O → Option SessionFault → D → C → Session T O D C
-session_of enc state failure detector coder =
-    record { enc = enc; moment = moment_of state; failure = failure; detector = detector; coder = coder }
+abbrev pub session_of : {T O D S C : Type 0} → EncoderConfig → SessionState T O → Option SessionFault → D → S → C → Session T O D S C
+session_of enc state failure detector scales coder = record {
+  enc = enc;
+  tables = state.rate.tables;
+  moment = moment_of state;
+  failure = failure;
+  detector = detector;
+  scales = scales;
+  coder = coder;
+}
 
 refused-map : {T O A B : Type 0} (reply : Reply T O) → (A → B) → WhereRefused reply A → WhereRefused reply B
 refused-map (Sent number) f holds = tt
@@ -116,49 +132,52 @@ refused-map (Status NotReady) f holds = f holds
 refused-map (Status FrameSizeMismatch) f holds = f holds
 refused-map (Status NoMemory) f holds = f holds
 
-pub session-same : {T O D C : Type 0} (enc : EncoderConfig) (state after : SessionState T O) (failure : Option SessionFault) (d e : D) (c f : C) →
-    after ≡ state → e ≡ d → f ≡ c → session_of enc after failure e f ≡ session_of enc state failure d c
-session-same enc state after failure d e c f states detectors coders = rw (states, detectors, coders) refl
+pub session-same : {T O D S C : Type 0} (enc : EncoderConfig) (state after : SessionState T O) (failure : Option SessionFault) (d e : D) (r s : S) (c f : C) →
+    after ≡ state → e ≡ d → s ≡ r → f ≡ c → session_of enc after failure e s f ≡ session_of enc state failure d r c
+session-same enc state after failure d e r s c f states detectors scales coders = rw (states, detectors, scales, coders) refl
 
 -- a call that a turn of the state answers
-pub call-of-turn : {T O D C : Type 0} (enc : EncoderConfig) (state after : SessionState T O) (failure : Option SessionFault) (d e : D) (c f : C) (call : Call T O) (turn : Turn T O)
-    (told now : Heard T) → failure ≡ None → IsStep enc call turn (moment_of state) (moment_of after) told now →
-    WhereRefused turn.reply ((after ≡ state) × (e ≡ d) × (f ≡ c)) → Unused call (e ≡ d) (f ≡ c) → IsLater told now →
-    IsCall GivesReply call (session_of enc state failure d c) (session_of enc after failure e f) told now (Ok turn.reply)
-call-of-turn {T} {O} {D} {C} enc state after failure d e c f call turn told now none step refused unused later =
-    call-answered GivesReply call (session_of enc state failure d c) (session_of enc after failure e f) told now (Ok turn.reply) none (record {
+pub call-of-turn : {T O D S C : Type 0} (enc : EncoderConfig) (state after : SessionState T O) (failure : Option SessionFault) (d e : D) (r s : S) (c f : C) (call : Call T O) (turn : Turn T O)
+    (told now : Heard T) → failure ≡ None → IsStep enc state.rate.tables call turn (moment_of state) (moment_of after) told now → after.rate.tables ≡ state.rate.tables →
+    WhereRefused turn.reply ((after ≡ state) × (e ≡ d) × (s ≡ r) × (f ≡ c)) → Unused call (e ≡ d) ((f ≡ c) × (s ≡ r)) → IsLater told now →
+    IsCall GivesReply call (session_of enc state failure d r c) (session_of enc after failure e s f) told now (Ok turn.reply)
+call-of-turn {T} {O} {D} {S} {C} enc state after failure d e r s c f call turn told now none step tables refused unused later =
+    call-answered GivesReply call (session_of enc state failure d r c) (session_of enc after failure e s f) told now (Ok turn.reply) none (record {
       turn = turn;
       step = step;
       reply = refl;
       settings = refl;
+      tables = tables;
       unfailed = none;
       refused = refused-map turn.reply same refused;
       unused = unused;
       later = later;
     })
   where
-    same : (after ≡ state) × (e ≡ d) × (f ≡ c) → session_of enc after failure e f ≡ session_of enc state failure d c
-    same (states, detectors, coders) = session-same enc state after failure d e c f states detectors coders
+    same : (after ≡ state) × (e ≡ d) × (s ≡ r) × (f ≡ c) → session_of enc after failure e s f ≡ session_of enc state failure d r c
+    same (states, detectors, scales, coders) = session-same enc state after failure d e r s c f states detectors scales coders
 
 -- a call that failed
-pub call-of-fault : {T O D C : Type 0} (enc : EncoderConfig) (state after : SessionState T O) (failure : Option SessionFault) (d e : D) (c f : C) (call : Call T O) (fault : SessionFault)
-    (status : EncoderStatus) (told now : Heard T) → failure ≡ None → status ≡ status_of fault → Fails enc call (moment_of state) told now fault →
-    ((number : ℕ) → fault ≡ Coder number → after ≡ state) → Unused call (e ≡ d) (f ≡ c) → IsLater told now →
-    IsCall GivesReply call (session_of enc state failure d c) (session_of enc after (Some fault) e f) told now (Err status)
-call-of-fault {T} {O} {D} {C} enc state after failure d e c f call fault status told now none is fails stays unused later =
-    call-failed GivesReply call (session_of enc state failure d c) (session_of enc after (Some fault) e f) told now (Err status) none (record {
+pub call-of-fault : {T O D S C : Type 0} (enc : EncoderConfig) (state after : SessionState T O) (failure : Option SessionFault) (d e : D) (r s : S) (c f : C) (call : Call T O) (fault : SessionFault)
+    (status : EncoderStatus) (told now : Heard T) → failure ≡ None → status ≡ status_of fault → Fails enc state.rate.tables call (moment_of state) told now fault →
+    after.rate.tables ≡ state.rate.tables → ((number : ℕ) → fault ≡ Coder number → moment_of after ≡ moment_of state) →
+    Unused call (e ≡ d) ((f ≡ c) × (s ≡ r)) → IsLater told now →
+    IsCall GivesReply call (session_of enc state failure d r c) (session_of enc after (Some fault) e s f) told now (Err status)
+call-of-fault {T} {O} {D} {S} {C} enc state after failure d e r s c f call fault status told now none is fails tables stays unused later =
+    call-failed GivesReply call (session_of enc state failure d r c) (session_of enc after (Some fault) e s f) told now (Err status) none (record {
       fault = fault;
       fails = fails;
       status = ap Err is;
       settings = refl;
+      tables = tables;
       kept = refl;
-      stays = λ number at. ap moment_of (stays number at);
+      stays = stays;
       unused = unused;
       later = later;
     })
 
 -- an answer made of a reply
-module _ {T O D C A : Type 0} (Gives : Reply T O → Result A EncoderStatus → Type 0) (call : Call T O) (before after : Session T O D C) (told now : Heard T)
+module _ {T O D S C A : Type 0} (Gives : Reply T O → Result A EncoderStatus → Type 0) (call : Call T O) (before after : Session T O D S C) (told now : Heard T)
     (answer : Result (Reply T O) EncoderStatus) (result : Result A EncoderStatus)
     (reply : IfOk answer (λ r. Gives r result)) (err : IfErr answer (λ status. result ≡ Err status)) where
   of_reply : (r : Reply T O) → answer ≡ Ok r → Gives r result
@@ -173,6 +192,7 @@ module _ {T O D C A : Type 0} (Gives : Reply T O → Result A EncoderStatus → 
     step = answered.step;
     reply = of_reply answered.turn.reply answered.reply;
     settings = answered.settings;
+    tables = answered.tables;
     unfailed = answered.unfailed;
     refused = answered.refused;
     unused = answered.unused;
@@ -183,6 +203,7 @@ module _ {T O D C A : Type 0} (Gives : Reply T O → Result A EncoderStatus → 
     fails = failed.fails;
     status = of_status _ failed.status;
     settings = failed.settings;
+    tables = failed.tables;
     kept = failed.kept;
     stays = failed.stays;
     unused = failed.unused;
@@ -198,35 +219,38 @@ none-of None is = refl
 none-of (Some a) is = cc
 
 -- neither a send nor a flush is failed by the coder
-runs-out : {T O D C A : Type 0} (picture : Option (Frame T)) (parameters : Option (FrameParameters O)) (call : Call T O) (before after : Session T O D C) (told now : Heard T) (result : Result A EncoderStatus) →
+runs-out : {T O D S C A : Type 0} (picture : Option (Frame T)) (parameters : Option (FrameParameters O)) (call : Call T O) (before after : Session T O D S C) (told now : Heard T) (result : Result A EncoderStatus) →
     Asks picture parameters call → IsFailed call before after told now result → RunsOut before after told now result
-runs-out {T} {O} {D} {C} {A} picture parameters call before after told now result asks failed = by_fault failed.fault failed.fails failed.status failed.kept
+runs-out {T} {O} {D} {S} {C} {A} picture parameters call before after told now result asks failed = by_fault failed.fault failed.fails failed.status failed.kept
   where
     not-receive : (picture : Option (Frame T)) → Asks picture parameters Receive → ⊥
     not-receive None asks = cc
     not-receive (Some one) asks = asks
 
-    coder_same : (picture : Option (Frame T)) (call : Call T O) → Asks picture parameters call → Unused call (after.detector ≡ before.detector) (after.coder ≡ before.coder) →
-        after.coder ≡ before.coder
-    coder_same None call asks unused = subst (λ (c : Call T O). Unused c (after.detector ≡ before.detector) (after.coder ≡ before.coder)) asks unused
+    OfCoder : Type 0
+    OfCoder = (after.coder ≡ before.coder) × (after.scales ≡ before.scales)
+
+    coder_same : (picture : Option (Frame T)) (call : Call T O) → Asks picture parameters call → Unused call (after.detector ≡ before.detector) OfCoder → OfCoder
+    coder_same None call asks unused = subst (λ (c : Call T O). Unused c (after.detector ≡ before.detector) OfCoder) asks unused
     coder_same (Some one) (Send frame given) asks unused = unused
     coder_same (Some one) Flush asks unused = absurd asks
     coder_same (Some one) Receive asks unused = absurd asks
 
-    by_fault : (fault : SessionFault) → Fails before.enc call before.moment told now fault → result ≡ Err (status_of fault) → after.failure ≡ Some fault →
+    by_fault : (fault : SessionFault) → Fails before.enc before.tables call before.moment told now fault → result ≡ Err (status_of fault) → after.failure ≡ Some fault →
         RunsOut before after told now result
     by_fault (Coder number) fails status kept = absurd (not-receive picture (subst (Asks picture parameters) fails.0 asks))
     by_fault OutOfMemory fails status kept = record {
       status = status;
       settings = failed.settings;
+      tables = failed.tables;
       kept = kept;
       unused = coder_same picture call asks failed.unused;
       later = failed.later;
     }
 
-pub send-of : {T O D C A : Type 0} (picture : Option (Frame T)) (parameters : Option (FrameParameters O)) (call : Call T O) (before after : Session T O D C) (told now : Heard T) (result : Result A EncoderStatus) →
+pub send-of : {T O D S C A : Type 0} (picture : Option (Frame T)) (parameters : Option (FrameParameters O)) (call : Call T O) (before after : Session T O D S C) (told now : Heard T) (result : Result A EncoderStatus) →
     Asks picture parameters call → IsCall GivesDone call before after told now result → IsSend picture parameters before after told now result
-send-of {T} {O} {D} {C} {A} picture parameters call before after told now result asks is = by_failure before.failure is
+send-of {T} {O} {D} {S} {C} {A} picture parameters call before after told now result asks is = by_failure before.failure is
   where
     SendOf : Option SessionFault → Type 0
     SendOf failure =
@@ -257,9 +281,9 @@ receive-reply {T} {O} enc decisions moment turn is = by_reason (held_back enc mo
     by_reason None codes = by_command codes.entry.command turn.reply codes.entry codes.reply
     by_reason (Some status) only = subst IsReceiveReply (sym only.0) tt
 
-pub received-reply : {T O D C : Type 0} (before after : Session T O D C) (told now : Heard T) (answer : Result (Reply T O) EncoderStatus) →
+pub received-reply : {T O D S C : Type 0} (before after : Session T O D S C) (told now : Heard T) (answer : Result (Reply T O) EncoderStatus) →
     IsCall GivesReply Receive before after told now answer → IfOk answer (λ reply. IsReceiveReply reply)
-received-reply {T} {O} {D} {C} before after told now answer is = by_failure before.failure is
+received-reply {T} {O} {D} {S} {C} before after told now answer is = by_failure before.failure is
   where
     Replies : Result (Reply T O) EncoderStatus → Type 0
     Replies a = IfOk a (λ reply. IsReceiveReply reply)

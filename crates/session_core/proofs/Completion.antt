@@ -10,7 +10,7 @@ use Rattle.pyramid.specs.Display.{showing}
 use Rattle.session_core.specs.declared.call.Call.{Call}
 use Rattle.session_core.specs.declared.packet.Packet.{Packet}
 use Rattle.session_core.specs.declared.transcript.Decision.{Decision}
-use Rattle.session_core.specs.declared.transcript.LogEntry.{LogEntry}
+use Rattle.session_log.specs.declared.entry.LogEntry.{LogEntry}
 use Rattle.session_core.specs.declared.transcript.Turn.{Turn}
 use Rattle.session_core.specs.Moments.{Accepted, Moment, opening, is_complete, plan_at}
 use Rattle.session_core.specs.Sessions.{AreTurns, moment_at, is_receive, accepted_in, entries_of, packets_of, accepted_by}

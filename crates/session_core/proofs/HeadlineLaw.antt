@@ -48,6 +48,7 @@ module _ {T O : Type 0} (enc : EncoderConfig) (whole : List Decision) (calls : L
         bytes = sym (ap (packet_bytes []) (sym (append-nil (real_entries (entries_of turns)))) ∙ given.bytes [] ∙ append-nil (map (λ (p : Packet T O). p.bytes) (packets_of turns)));
         numbers = given.numbers;
         types = given.types;
+        qps = given.qps;
         sources = given.sources;
         opaques = given.opaques;
       }

@@ -10,9 +10,12 @@ mod HeadlineLaw
 mod History
 mod KnownBehind
 mod Lookahead
+mod LumaIndices
 mod PlanAt
 mod PlanFronts
+mod Quantising
 mod RunHistory
+mod Scaling
 mod Schedules
 mod Scheduling
 pub mod SessionLaws
@@ -22,6 +25,7 @@ mod StateLemmas
 mod Steps
 mod Taken
 mod Telling
+mod Trying
 mod Turning
 mod WaitingKinds
 mod Widen

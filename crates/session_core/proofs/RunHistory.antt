@@ -8,7 +8,7 @@ use Rattle.pyramid.specs.declared.command.Command.{Command}
 use Rattle.session_core.specs.declared.call.Call.{Call}
 use Rattle.session_core.specs.declared.packet.Packet.{Packet}
 use Rattle.session_core.specs.declared.transcript.Decision.{Decision}
-use Rattle.session_core.specs.declared.transcript.LogEntry.{LogEntry}
+use Rattle.session_log.specs.declared.entry.LogEntry.{LogEntry}
 use Rattle.session_core.specs.declared.transcript.Turn.{Turn}
 use Rattle.session_core.specs.Moments.{Accepted, Moment, opening, plan_at}
 use Rattle.session_core.specs.Sessions.{AreTurns, moment_after, accepted_by, accepted_in, entries_of, commands_of, packets_of}
@@ -79,13 +79,13 @@ module _ {T O : Type 0} (enc : EncoderConfig) (whole : List Decision) (moment : 
     | inl giving ↦
         as_it_is after _ (accepted_by call turn.reply) (real_entries turn.log) (packet_of turn.reply) [] (coding.entry ∷ []) (giving.packet ∷ [])
         giving.then coding.accepts coding.coded giving.gives
-        (subst (λ (x : List (Accepted T O)). IsHistory enc whole (with_packet moment) x (entries ++ coding.entry ∷ []) (packets ++ giving.packet ∷ [])) (sym (append-nil sent))
-        (history-packet enc whole moment sent entries packets history coding.entry coding.due coding.command giving.shows giving.packet giving.next))
+        (subst (λ (x : List (Accepted T O)). IsHistory enc whole (with_packet moment turn.log) x (entries ++ coding.entry ∷ []) (packets ++ giving.packet ∷ [])) (sym (append-nil sent))
+        (history-packet enc whole moment sent entries packets history coding.entry coding.due coding.command turn.log giving.shows giving.packet giving.next))
     | inr hiding ↦
         as_it_is after _ (accepted_by call turn.reply) (real_entries turn.log) (packet_of turn.reply) [] (coding.entry ∷ []) []
         hiding.then coding.accepts coding.coded hiding.none
-        (subst₂ (λ (x : List (Accepted T O)) (y : List (Packet T O)). IsHistory enc whole (with_entry moment coding.entry) x (entries ++ coding.entry ∷ []) y) (sym (append-nil sent)) (sym (append-nil packets))
-        (history-entry enc whole moment sent entries packets history coding.entry coding.due coding.command hiding.hides))
+        (subst₂ (λ (x : List (Accepted T O)) (y : List (Packet T O)). IsHistory enc whole (with_entry moment coding.entry turn.log) x (entries ++ coding.entry ∷ []) y) (sym (append-nil sent)) (sym (append-nil packets))
+        (history-entry enc whole moment sent entries packets history coding.entry coding.due coding.command turn.log hiding.hides))
   ]
 
 -- ---- of calls and turns

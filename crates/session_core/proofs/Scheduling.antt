@@ -1,9 +1,10 @@
 -- The schedule that a session keeps: what its calls do to it, and what a receive reads from it.
-use Rattle.std.proofs.Common.{◌≡◌, ℕ, zero, suc, ◌+◌, ◌-◌, ◌≤◌, ◌<◌, ◌^◌, ◌/◌, Bool, true, false, not, ◌&&◌, cond, eqb, leb, ltb, drop, List, [], ◌∷◌, ◌++◌, length, Option, Some, None, refl, sym, ap, ◌∙◌, subst, append-nil, append_assoc, arith}
+use Rattle.std.proofs.Common.{◌≡◌, ℕ, zero, suc, ◌+◌, ◌*◌, ◌≤◌, ◌<◌, ◌^◌, ◌/◌, Bool, true, false, not, ◌&&◌, eqb, leb, ltb, drop, List, [], ◌∷◌, ◌++◌, map, length, All, Option, Some, None, refl, sym, ap, ◌∙◌, subst, append-nil, append_assoc, zero-le, arith}
 use Rattle.std.specs.List.{slice_get, count_by}
 use Rattle.std.proofs.lemmas.Bool.{cond-false, ne_eqb}
 use Rattle.std.proofs.lemmas.Bool.Decides.{leb_tells}
 use Rattle.std.proofs.lemmas.List.{nil_from_length, length-append}
+use Rattle.std.proofs.lemmas.List.Elements.{All-nil}
 use Rattle.std.proofs.lemmas.Option.{slice_get_within}
 use Rattle.av1_settings.specs.declared.encoder.EncoderConfig.{EncoderConfig}
 use Rattle.av1_settings.specs.declared.speed.SceneDetectionSpeed.{SceneDetectionSpeed}
@@ -16,13 +17,15 @@ use Rattle.pyramid.specs.Schedules.{IsSchedule}
 use Rattle.pyramid.specs.Settings.{numbers_of}
 use Rattle.session_core.specs.declared.state.SessionState.{SessionState}
 use Rattle.session_core.specs.declared.transcript.Decision.{Decision}
-use Rattle.session_core.specs.declared.transcript.LogEntry.{LogEntry}
+use Rattle.http_server.specs.declared.log.Log.{Log}
+use Rattle.session_log.specs.Keeps.{IsSized, Keeps}
+use Rattle.session_log.specs.declared.entry.LogEntry.{LogEntry}
 use Rattle.session_core.specs.declared.transcript.Reply.{Reply}
 use Rattle.session_core.specs.declared.transcript.Reply.TheVariants.{Sent, Flushed, Packet as GivesPacket, Status}
 use Rattle.session_core.specs.Decisions.{decided_count, key_positions, keys_of}
 use Rattle.session_core.specs.Moments.{Moment, known_at, plan_at}
 use Rattle.session_core.specs.Questions.{last_key}
-use Rattle.session_core.specs.States.{moment_of, Decided, IsKept, IsScheduled, KeepsLastKey, TakesKeys}
+use Rattle.session_core.specs.States.{moment_of, Decided, IsKept, IsRated, IsScheduled, KeepsLastKey, TakesKeys}
 use Rattle.session_core.specs.Told.{Asked}
 use Rattle.session_core.specs.Turns.{after_receive, frame_limit, needs_more_data, real_entries}
 use Rattle.session_core.proofs.Decided.{keys-append, slice_get-front}
@@ -38,20 +41,48 @@ pub kept-schedule : {T O : Type 0} (enc : EncoderConfig) (state : SessionState T
 unfolding IsKept
 kept-schedule enc state kept = kept.1
 
-pub is-kept : {T O : Type 0} (enc : EncoderConfig) (state : SessionState T O) → KeepsLastKey state → IsScheduled enc (moment_of state) state.schedule → IsKept enc state
+pub kept-rated : {T O : Type 0} (enc : EncoderConfig) (state : SessionState T O) → IsKept enc state → IsRated enc (moment_of state) state.rate
 unfolding IsKept
-is-kept enc state last schedule = (last, schedule)
+kept-rated enc state kept = kept.2
+
+pub is-kept : {T O : Type 0} (enc : EncoderConfig) (state : SessionState T O) → KeepsLastKey state → IsScheduled enc (moment_of state) state.schedule →
+    IsRated enc (moment_of state) state.rate → IsKept enc state
+unfolding IsKept
+is-kept enc state last schedule rated = (last, schedule, rated)
+
+-- rate control stays that of a moment whose log and whose commands stay
+pub still-rated : {T O : Type 0} (enc : EncoderConfig) (before after : SessionState T O) → IsRated enc (moment_of before) before.rate →
+    after.log ≡ before.log → after.commands ≡ before.commands → after.rate ≡ before.rate → IsRated enc (moment_of after) after.rate
+still-rated {T} {O} enc before after rated same_log same_commands same_rate = rw same_rate (record {
+  keeps = subst (λ (log : List LogEntry). Keeps enc before.rate.tables log before.rate) (sym logged) rated.keeps;
+  few = rw (logged, same_commands) rated.few;
+  sized = subst (λ (log : List LogEntry). All IsSized log) (sym logged) rated.sized;
+})
+  where
+    logged : (moment_of after).log ≡ (moment_of before).log
+    logged = ap (λ (log : Log LogEntry Unit). map (λ (pair : LogEntry × Unit). pair.0) log.items) same_log
 
 -- before the first frame
 pub kept-opening : {T O : Type 0} (enc : EncoderConfig) (state : SessionState T O) → state.accepted ≡ 0 → state.flushed ≡ false → state.commands ≡ 0 → state.decisions.items ≡ [] →
-    state.last_key ≡ 0 → IsSchedule (numbers_of enc) (interval_of enc.max_key_frame_interval) 0 false [] 0 state.schedule → IsKept enc state
-kept-opening {T} {O} enc state accepted flushed commands decisions last schedule = is-kept enc state kept_last scheduled
+    state.last_key ≡ 0 → IsSchedule (numbers_of enc) (interval_of enc.max_key_frame_interval) 0 false [] 0 state.schedule →
+    state.log.items ≡ [] → Keeps enc state.rate.tables [] state.rate → IsKept enc state
+kept-opening {T} {O} enc state accepted flushed commands decisions last schedule none keeps = is-kept enc state kept_last scheduled rated
   where
     kept_last : KeepsLastKey state
     kept_last = last ∙ ap (λ (d : List Decision). last_key d (length d + 1)) (sym decisions)
 
     scheduled : IsScheduled enc (moment_of state) state.schedule
     scheduled = rw (accepted, flushed, commands) schedule
+
+    empty : (moment_of state).log ≡ []
+    empty = ap (map (λ (pair : LogEntry × Unit). pair.0)) none
+
+    rated : IsRated enc (moment_of state) state.rate
+    rated = record {
+      keeps = subst (λ (log : List LogEntry). Keeps enc state.rate.tables log state.rate) (sym empty) keeps;
+      few = subst (λ (log : List LogEntry). length log ≤ state.commands * 2) (sym empty) zero-le;
+      sized = subst (λ (log : List LogEntry). All IsSized log) (sym empty) (All-nil IsSized);
+    }
 
 -- ---- keys
 
@@ -177,10 +208,10 @@ module _ {T O : Type 0} (enc : EncoderConfig) (moment : Moment T O) where
       ∙ known_here
 
   -- as many commands as a plan has can be counted
-  pub commands-fit : moment.accepted ≤ frame_limit → moment.commands < length (known_at enc moment) → moment.commands < 2 ^ 64 - 1
+  pub commands-fit : moment.accepted ≤ frame_limit → moment.commands < length (known_at enc moment) → moment.commands + 2 ≤ 2 ^ 32
   commands-fit few there = fits moment.commands (length (known_at enc moment)) (length (plan_at enc moment)) moment.accepted few there (known-within enc moment) (plan-of enc moment).size
     where
-      fits : (k known whole frames : ℕ) → frames ≤ frame_limit → k < known → known ≤ whole → whole ≤ frames + frames / 2 → k < 2 ^ 64 - 1
+      fits : (k known whole frames : ℕ) → frames ≤ frame_limit → k < known → known ≤ whole → whole ≤ frames + frames / 2 → k + 2 ≤ 2 ^ 32
       fits k known whole frames a b c d = omega (arith, a, b, c, d)
 
 -- the lookahead wants more frames where so many coded ones are known
@@ -195,21 +226,18 @@ wants-more enc moment count open_yet is =
     below a b = grind (arith, leb_tells)
 
 -- a receive that codes a command moves on by one
-pub received-scheduled : {T O : Type 0} (enc : EncoderConfig) (moment : Moment T O) (entry : LogEntry) (reply : Reply T O) (schedule : Schedule) → entry.trial ≡ false →
+pub received-scheduled : {T O : Type 0} (enc : EncoderConfig) (moment : Moment T O) (log : List LogEntry) (reply : Reply T O) (schedule : Schedule) → length (real_entries log) ≡ 1 →
     IsSchedule (numbers_of enc) (interval_of enc.max_key_frame_interval) moment.accepted moment.flushed (keys_of moment.accepted moment.decisions) (moment.commands + 1) schedule →
-    IsScheduled enc (after_receive moment (entry ∷ []) reply) schedule
-received-scheduled {T} {O} enc moment entry reply schedule real is = by_reply reply
+    IsScheduled enc (after_receive moment log reply) schedule
+received-scheduled {T} {O} enc moment log reply schedule one is = by_reply reply
   where
-    one : length (real_entries (entry ∷ [])) ≡ 1
-    one = ap (λ (trial : Bool). length (cond (not trial) (entry ∷ []) [])) real
-
     counted : IsSchedule (numbers_of enc) (interval_of enc.max_key_frame_interval) moment.accepted moment.flushed (keys_of moment.accepted moment.decisions)
-        (moment.commands + length (real_entries (entry ∷ []))) schedule
+        (moment.commands + length (real_entries log)) schedule
     counted =
         subst (λ (n : ℕ). IsSchedule (numbers_of enc) (interval_of enc.max_key_frame_interval) moment.accepted moment.flushed (keys_of moment.accepted moment.decisions)
         (moment.commands + n) schedule) (sym one) is
 
-    by_reply : (reply : Reply T O) → IsScheduled enc (after_receive moment (entry ∷ []) reply) schedule
+    by_reply : (reply : Reply T O) → IsScheduled enc (after_receive moment log reply) schedule
     by_reply (GivesPacket packet) = counted
     by_reply (Sent number) = counted
     by_reply Flushed = counted

@@ -9,7 +9,7 @@ use Rattle.pyramid.specs.declared.command.Command.TheVariants.{Code, Show}
 use Rattle.pyramid.specs.Display.{shows, showing}
 use Rattle.pyramid.specs.Settings.{numbers_of}
 use Rattle.session_core.specs.declared.transcript.Decision.{Decision}
-use Rattle.session_core.specs.declared.transcript.LogEntry.{LogEntry}
+use Rattle.session_log.specs.declared.entry.LogEntry.{LogEntry}
 use Rattle.session_core.specs.Decisions.{decided_count, decisions_at}
 use Rattle.session_core.specs.Moments.{Accepted, Coding, Waiting, Moment, plan_at, known_at}
 use Rattle.session_core.specs.Turns.{frame_limit, Decides, after_flush, held_back, coding_of, with_coding, noted}
@@ -18,7 +18,7 @@ use Rattle.session_core.proofs.PlanAt.{plan-of, Keeps, keeps-later}
 use Rattle.session_core.proofs.PlanFronts.{take_next, showing_yes, showing_no, has_code, has_code_left, kind_of, kind_of-other, kind_of-last, not_before, next_coded, codes_none_later}
 use Rattle.session_core.proofs.Sound.{IsSound, packets-within, packets-are, waits, not_early, there}
 use Rattle.session_core.proofs.Steps.{with_frame, with_packet, with_entry}
-use Rattle.session_core.proofs.WaitingKinds.{waiting_kind, kind-push, frames-with_coding, kind-here, kind-other}
+use Rattle.session_core.proofs.WaitingKinds.{waiting_kind, coding-push, frames-with_coding, coding-here, coding-other}
 
 module _ {T O : Type 0} (enc : EncoderConfig) (whole : List Decision) (moment : Moment T O) (sent : List (Accepted T O)) (done : List Command) (sound : IsSound enc whole moment sent done) where
   -- ---- sends and flushes
@@ -66,7 +66,8 @@ module _ {T O : Type 0} (enc : EncoderConfig) (whole : List Decision) (moment : 
     packets = sound.packets;
     coded = sound.coded;
     frames = frames_then;
-    kinds = λ index. kind-push moment.waiting (record { frame = frame; coded = None }) index refl ∙ sound.kinds index;
+    kinds = λ index. ap (option_map (λ (coding : Coding). coding.kind)) (coding-push moment.waiting (record { frame = frame; coded = None }) index refl)
+        ∙ sound.kinds index;
   }
     where
       after : Moment T O
@@ -136,8 +137,8 @@ module _ {T O : Type 0} (enc : EncoderConfig) (whole : List Decision) (moment : 
     coded_more : (k : ℕ) → k < moment.packets → has_code (done ++ command ∷ []) k ≡ true
     coded_more k h = has_code_left done command k (sound.coded k h)
 
-    pub sound-packet : shows command ≡ true → IsSound enc whole (with_packet moment) sent (done ++ command ∷ [])
-    sound-packet visible = record {
+    pub sound-packet : (log : List LogEntry) → shows command ≡ true → IsSound enc whole (with_packet moment log) sent (done ++ command ∷ [])
+    sound-packet log visible = record {
       accepted = sound.accepted;
       few = sound.few;
       decisions = sound.decisions;
@@ -176,17 +177,17 @@ module _ {T O : Type 0} (enc : EncoderConfig) (whole : List Decision) (moment : 
   -- a hidden frame that is coded waits with its type
   module _ (frame : ℕ) (kind : FrameType) (refs : List ℕ) (refresh : ℕ) (visible : Bool)
       (next : slice_get (plan_at enc moment) moment.commands ≡ Some (Code frame kind refs refresh visible)) where
-    after_packets : moment.packets ≤ frame
+    pub after_packets : moment.packets ≤ frame
     after_packets = subst (λ (n : ℕ). n ≤ frame) (sym (packets-are enc whole moment sent done sound))
         ((plan-of enc moment).unshown moment.commands frame kind refs refresh visible next)
 
-    is_waiting : frame - moment.packets < length moment.waiting
+    pub is_waiting : frame - moment.packets < length moment.waiting
     is_waiting = inside ((plan-of enc moment).below moment.commands frame kind refs refresh visible next)
       where
         inside : frame < moment.accepted → frame - moment.packets < length moment.waiting
         inside h = omega (arith, waits enc whole moment sent done sound, after_packets)
 
-    not_yet : has_code done frame ≡ false
+    pub not_yet : has_code done frame ≡ false
     not_yet =
         ap (λ (l : List Command). has_code l frame) sound.commands
         ∙ not_before (plan_at enc moment) moment.accepted (plan-of enc moment) moment.commands frame kind refs refresh visible next
@@ -197,11 +198,11 @@ module _ {T O : Type 0} (enc : EncoderConfig) (whole : List Decision) (moment : 
       | inl here ↦
           let number : moment.packets + index ≡ frame = omega (arith, after_packets) in
           ap (waiting_kind (with_coding moment.waiting (frame - moment.packets) coding)) here
-          ∙ kind-here moment.waiting (frame - moment.packets) coding is_waiting
+          ∙ ap (option_map (λ (one : Coding). one.kind)) (coding-here moment.waiting (frame - moment.packets) coding is_waiting)
           ∙ is
           ∙ sym (ap (kind_of (done ++ Code frame kind refs refresh visible ∷ [])) number ∙ kind_of-last done frame kind refs refresh visible not_yet)
       | inr other ↦
-          kind-other moment.waiting (frame - moment.packets) index coding other
+          ap (option_map (λ (one : Coding). one.kind)) (coding-other moment.waiting (frame - moment.packets) index coding other)
           ∙ sound.kinds index
           ∙ sym (kind_of-other done (Code frame kind refs refresh visible) (moment.packets + index)
           (ne_eqb frame (moment.packets + index) (λ e. other (before_it index e))))
@@ -215,11 +216,11 @@ module _ {T O : Type 0} (enc : EncoderConfig) (whole : List Decision) (moment : 
     pub frames : map frame_of waiting ≡ map frame_of moment.waiting
     pub kinds : (index : ℕ) → waiting_kind waiting index ≡ kind_of (done ++ command ∷ []) (moment.packets + index)
 
-  noted_hidden : (command : Command) (trial : Bool) (bytes : List ℕ) → slice_get (plan_at enc moment) moment.commands ≡ Some command → shows command ≡ false →
-      Notes (noted moment.packets moment.waiting (record { command = command; trial = trial; bytes = bytes })) command
-  noted_hidden (Show slot) trial bytes next hidden = absurd (false≢true (sym hidden))
-  noted_hidden (Code frame kind refs refresh visible) trial bytes next hidden =
-      let coding : Option Coding = coding_of (record { command = Code frame kind refs refresh visible; trial = trial; bytes = bytes }) in
+  noted_hidden : (command : Command) (entry : LogEntry) → slice_get (plan_at enc moment) moment.commands ≡ Some command → shows command ≡ false →
+      Notes (noted moment.packets moment.waiting (record entry { command = command })) command
+  noted_hidden (Show slot) entry next hidden = absurd (false≢true (sym hidden))
+  noted_hidden (Code frame kind refs refresh visible) entry next hidden =
+      let coding : Option Coding = coding_of (record entry { command = Code frame kind refs refresh visible }) in
       subst (λ (waiting : List (Waiting T O)). Notes waiting (Code frame kind refs refresh visible))
       (sym (cond-false (ltb frame moment.packets) moment.waiting (with_coding moment.waiting (frame - moment.packets) coding)
       (le-ltb frame moment.packets (after_packets frame kind refs refresh visible next))))
@@ -228,11 +229,11 @@ module _ {T O : Type 0} (enc : EncoderConfig) (whole : List Decision) (moment : 
         kinds = coded_kinds frame kind refs refresh visible next coding refl;
       })
 
-  pub sound-entry : (entry : LogEntry) → held_back enc moment ≡ None →
+  pub sound-entry : (entry : LogEntry) (log : List LogEntry) → held_back enc moment ≡ None →
       slice_get (plan_at enc moment) moment.commands ≡ Some entry.command → shows entry.command ≡ false →
-      IsSound enc whole (with_entry moment entry) sent (done ++ entry.command ∷ [])
-  sound-entry entry due next hidden =
-      let noticed = noted_hidden entry.command entry.trial entry.bytes next hidden in
+      IsSound enc whole (with_entry moment entry log) sent (done ++ entry.command ∷ [])
+  sound-entry entry log due next hidden =
+      let noticed = noted_hidden entry.command entry next hidden in
       record {
         accepted = sound.accepted;
         few = sound.few;

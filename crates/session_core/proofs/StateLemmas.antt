@@ -1,7 +1,7 @@
 -- Lemmas on the state of a session.
-use Rattle.std.proofs.Common.{◌≡◌, ℕ, zero, suc, ◌+◌, ◌-◌, ◌≤◌, ◌<◌, Bool, true, false, ◌&&◌, cond, List, [], ◌∷◌, map, length, get_or, set, All, MatchBool, MatchOption, Option, Some, None, IsSome, option_to_list, refl, sym, ◌∙◌, ap, subst, append-nil, arith}
+use Rattle.std.proofs.Common.{◌≡◌, ℕ, zero, suc, ◌+◌, ◌-◌, ◌≤◌, ◌<◌, Bool, true, false, not, ◌&&◌, cond, List, [], ◌∷◌, map, length, get_or, set, All, MatchBool, MatchOption, Option, Some, None, IsSome, option_to_list, refl, sym, ◌∙◌, ap, subst, arith}
 use Rattle.std.specs.Option.{option_and_then, option_map}
-use Rattle.std.specs.List.{flat_map, slice_get}
+use Rattle.std.specs.List.{slice_get}
 use Rattle.std.proofs.lemmas.Bool.{le-ltb}
 use Rattle.std.proofs.lemmas.List.{map-set}
 use Rattle.std.proofs.lemmas.List.Elements.{All-cons, All-head, All-nil}
@@ -14,42 +14,47 @@ use Rattle.pyramid.specs.declared.command.Command.{Command}
 use Rattle.pyramid.specs.declared.command.Command.TheVariants.{Code, Show}
 use Rattle.session_core.specs.declared.coded.Coded.{Coded}
 use Rattle.session_core.specs.declared.coder.CodeJob.{CodeJob}
-use Rattle.session_core.specs.declared.fault.SessionFault.{SessionFault}
-use Rattle.session_core.specs.declared.fault.SessionFault.TheVariants.{Coder, OutOfMemory}
-use Rattle.session_core.specs.declared.transcript.LogEntry.{LogEntry}
+use Rattle.session_log.specs.Keeps.{HasSize, IsSized}
+use Rattle.session_log.specs.declared.entry.LogEntry.{LogEntry}
 use Rattle.session_core.specs.declared.packet.Packet.{Packet}
 use Rattle.session_core.specs.declared.transcript.Reply.{Reply}
 use Rattle.session_core.specs.declared.transcript.Reply.TheVariants.{Sent, Flushed, Packet as GivesPacket, Status}
 use Rattle.session_core.specs.declared.transcript.Turn.{Turn}
 use Rattle.session_core.specs.declared.state.SessionState.{SessionState}
+use Rattle.session_core.specs.declared.waiting.Coding.{Coding as CodedAs}
 use Rattle.session_core.specs.declared.waiting.WaitingFrame.{WaitingFrame}
 use Rattle.pyramid.specs.Numbers.{Numbers}
 use Rattle.session_core.specs.Decisions.{decided_count}
-use Rattle.session_core.specs.Moments.{Waiting, Moment, plan_at, waiting_at}
-use Rattle.session_core.specs.States.{CanCode, Carries, FailsCoding, gave_of, told_at, waiting_of, moment_of}
-use Rattle.session_core.specs.Steps.{FailsReceiving, WhereRefused}
+use Rattle.session_core.specs.Moments.{Waiting, Moment, waiting_at}
+use Rattle.session_core.specs.States.{CanCode, Carries, IsCoded, coding_value, gave_of, told_at, waiting_of, moment_of}
+use Rattle.session_core.specs.Steps.{WhereRefused}
 use Rattle.session_core.specs.Taken.{IsTaken, handed_at, is_shown, job_of, packet_of}
 use Rattle.session_core.specs.Told.{CoderTold, Gave, Handed, ToShow, Told, Grew, IsAhead, handed_code}
-use Rattle.session_core.specs.Turns.{CodesNext, IsNextPacket, IsReceived, OnlyReplies, forced_at, held_back, is_showing, noted, shown_coding, with_coding}
-use Rattle.session_core.proofs.Telling.{ahead-nothing, ahead-one}
+use Rattle.session_core.specs.Turns.{CodesNext, IsNextPacket, IsReceived, OnlyReplies, coding_of, forced_at, held_back, is_showing, noted, shown_coding, with_coding}
+use Rattle.session_core.proofs.Telling.{ahead-one}
 
 -- a frame that waits is coded
-pub noted-set : {T O : Type 0} (items : List (WaitingFrame T O)) (index : ℕ) (one : WaitingFrame T O) (kind : FrameType) →
+pub noted-set : {T O : Type 0} (items : List (WaitingFrame T O)) (index : ℕ) (one : WaitingFrame T O) (coding : Option CodedAs) →
     index < length items → one ≡ get_or items index one →
-    map waiting_of (set items index (record one { kind = Some kind })) ≡ with_coding (map waiting_of items) index (Some (record { kind = kind }))
-noted-set items index one kind within read =
+    map waiting_of (set items index (record one { coding = coding })) ≡ with_coding (map waiting_of items) index (option_map coding_value coding)
+noted-set items index one coding within read =
     let there : slice_get (map waiting_of items) index ≡ Some (waiting_of one) =
     slice_get-map waiting_of items index ∙ ap (option_map waiting_of) (slice_get_read items (length items) index one refl within read) in
-    rw (there, with_coding) (map-set waiting_of items index (record one { kind = Some kind }))
+    rw (there, with_coding) (map-set waiting_of items index (record one { coding = coding }))
 
-pub noted-code : {T O : Type 0} (items : List (WaitingFrame T O)) (packets : ℕ) (one : WaitingFrame T O) (entry : LogEntry)
+pub noted-code : {T O : Type 0} (items : List (WaitingFrame T O)) (packets : ℕ) (one : WaitingFrame T O) (coding : Option CodedAs) (entry : LogEntry)
     (frame : ℕ) (kind : FrameType) (refs : List ℕ) (refresh : ℕ) (shown : Bool) → entry.command ≡ Code frame kind refs refresh shown →
+    option_map coding_value coding ≡ coding_of entry →
     packets ≤ frame → frame - packets < length items → one ≡ get_or items (frame - packets) one →
-    map waiting_of (set items (frame - packets) (record one { kind = Some kind })) ≡ noted packets (map waiting_of items) entry
-noted-code items packets one entry frame kind refs refresh shown is late within read =
+    map waiting_of (set items (frame - packets) (record one { coding = coding })) ≡ noted packets (map waiting_of items) entry
+noted-code items packets one coding entry frame kind refs refresh shown is coded late within read =
     let After : Command → Type 0 = λ command.
-    map waiting_of (set items (frame - packets) (record one { kind = Some kind })) ≡ noted packets (map waiting_of items) (record entry { command = command }) in
-    subst After (sym is) (rw (le-ltb frame packets late) (noted-set items (frame - packets) one kind within read))
+    map waiting_of (set items (frame - packets) (record one { coding = coding })) ≡ noted packets (map waiting_of items) (record entry { command = command }) in
+    let now : option_map coding_value coding ≡ coding_of (record entry { command = Code frame kind refs refresh shown }) =
+    subst (λ (command : Command). option_map coding_value coding ≡ coding_of (record entry { command = command })) is coded in
+    subst After (sym is)
+    (rw (le-ltb frame packets late)
+    (noted-set items (frame - packets) one coding within read ∙ ap (with_coding (map waiting_of items) (frame - packets)) now))
 
 -- the mark of a frame that waits
 pub forced-read : {T O : Type 0} (state : SessionState T O) (p : ℕ) (one : WaitingFrame T O) →
@@ -90,42 +95,37 @@ waiting-there {T} {O} m frame late within =
     get-there (x ∷ xs) zero h = (x, refl)
     get-there (x ∷ xs) (suc k) h = get-there xs k (omega arith)
 
--- what the coder is handed for a command for good, which shows as the command does
+-- what the coder is handed for an entry, which shows as the command does where it is for good
 pub record HandsOver {T O : Type 0} (m : Moment T O) (entry : LogEntry) : Type 0 where
   pub job : Handed T
   pub is_job : handed_at m entry ≡ job ∷ []
-  pub shows : is_shown job ≡ is_showing entry.command
+  pub shows : is_shown job ≡ (is_showing entry.command && not entry.trial)
 
-hands-over-by : {T O : Type 0} (m : Moment T O) (bytes : List ℕ) (command : Command) → m.packets + length m.waiting ≡ m.accepted →
-    CanCode m command → HandsOver m (record { command = command; trial = false; bytes = bytes })
-hands-over-by {T} {O} m bytes (Code frame kind refs refresh shown) waits can =
+hands-over-by : {T O : Type 0} (m : Moment T O) (entry : LogEntry) (command : Command) → m.packets + length m.waiting ≡ m.accepted →
+    CanCode m command → HasSize command entry → HandsOver m (record entry { command = command })
+hands-over-by {T} {O} m entry (Code frame kind refs refresh shown) waits can sized =
     let there = waiting-there m frame can.0 (omega (arith, waits, can.0, can.1)) in
+    let coded : LogEntry = record entry { command = Code frame kind refs refresh shown } in
     record {
-      job = job_of (Code frame kind refs refresh shown) false there.0.frame;
-      is_job = ap (λ (o : Option (Waiting T O)). option_to_list (option_map (λ waiting. job_of (Code frame kind refs refresh shown) false waiting.frame) o)) there.1;
-      shows = and-true shown;
+      job = job_of coded there.0.frame;
+      is_job = ap (λ (o : Option (Waiting T O)). option_to_list (option_map (λ waiting. job_of coded waiting.frame) o)) there.1;
+      shows = refl;
     }
-  where
-    and-true : (b : Bool) → (b && true) ≡ b
-    and-true true = refl
-    and-true false = refl
-hands-over-by m bytes (Show slot) waits can =
-    record { job = ToShow (record { slot = slot; frame = m.packets }); is_job = refl; shows = refl }
+hands-over-by m entry (Show slot) waits can sized =
+    record { job = ToShow (record { slot = slot; frame = m.packets }); is_job = refl; shows = sym (ap not sized.1) }
 
 pub hands-over : {T O : Type 0} (m : Moment T O) (entry : LogEntry) → m.packets + length m.waiting ≡ m.accepted → CanCode m entry.command →
-    entry.trial ≡ false → HandsOver m entry
-hands-over {T} {O} m entry waits can real =
-    subst (λ (trial : Bool). HandsOver m (record { command = entry.command; trial = trial; bytes = entry.bytes })) (sym real)
-    (hands-over-by m entry.bytes entry.command waits can)
+    IsSized entry → HandsOver m entry
+hands-over m entry waits can sized = hands-over-by m entry entry.command waits can sized
 
 -- the job of a frame that waits
 pub hands-job : {T O : Type 0} (state : SessionState T O) (job : CodeJob T) (entry : LogEntry) (one : WaitingFrame T O)
     (frame : ℕ) (kind : FrameType) (refs : List ℕ) (refresh : ℕ) (shown : Bool) →
-    entry.command ≡ Code frame kind refs refresh shown → job.command ≡ entry.command → job.trial ≡ entry.trial →
+    entry.command ≡ Code frame kind refs refresh shown → job.command ≡ entry.command → job.trial ≡ entry.trial → entry.quant ≡ Some job.quant →
     state.packets ≤ frame → frame - state.packets < length state.waiting.items → one ≡ get_or state.waiting.items (frame - state.packets) one →
     job.picture.value ≡ one.picture.value → job.t35.value ≡ one.t35.value →
     handed_at (moment_of state) entry ≡ handed_code job ∷ []
-hands-job {T} {O} state job entry one frame kind refs refresh shown is command trial late within read picture t35 =
+hands-job {T} {O} state job entry one frame kind refs refresh shown is command trial quant late within read picture t35 =
     subst Hands (sym is) there
   where
     items : List (WaitingFrame T O)
@@ -139,12 +139,15 @@ hands-job {T} {O} state job entry one frame kind refs refresh shown is command t
         (slice_get-map waiting_of items (frame - state.packets)
         ∙ ap (option_map waiting_of) (slice_get_read items (length items) (frame - state.packets) one refl within read))
 
-    same : job_of (Code frame kind refs refresh shown) entry.trial (waiting_of one).frame ≡ handed_code job
-    same = rw (command ∙ is, trial, picture, t35) refl
+    coded : LogEntry
+    coded = record entry { command = Code frame kind refs refresh shown }
+
+    same : job_of coded (waiting_of one).frame ≡ handed_code job
+    same = rw (command ∙ is, trial, quant, picture, t35) refl
 
     there : Hands (Code frame kind refs refresh shown)
     there =
-        ap (λ (o : Option (Waiting T O)). option_to_list (option_map (λ waiting. job_of (Code frame kind refs refresh shown) entry.trial waiting.frame) o)) read_at
+        ap (λ (o : Option (Waiting T O)). option_to_list (option_map (λ waiting. job_of coded waiting.frame) o)) read_at
         ∙ ap (λ (h : Handed T). h ∷ []) same
 
 -- what is told of it, and that it was told ahead
@@ -160,26 +163,26 @@ ahead-of {T} m coded told job gave handed is ahead =
     subst (All (λ job. IsAhead told job (gave_of coded))) (sym handed)
     (All-cons (λ job. IsAhead told job (gave_of coded)) job [] (subst (IsAhead told job) (sym is) ahead) (All-nil (λ job. IsAhead told job (gave_of coded))))
 
--- a receive that codes a command has the coder take its job
-pub taken-coded : {T O : Type 0} (m : Moment T O) (coded : Coded T) (log : List LogEntry) (reply : Reply T O) (told now : CoderTold T) →
-    m.packets + length m.waiting ≡ m.accepted → CanCode m coded.entry.command → coded.entry.trial ≡ false → log ≡ coded.entry ∷ [] →
-    Carries coded reply → Grew told.calls now.calls (told_at m coded) → All (λ job. IsAhead told job (gave_of coded)) (handed_at m coded.entry) →
-    now.gives ≡ told.gives → IsTaken (flat_map (handed_at m) log) log (packet_of reply) told now
-taken-coded {T} {O} m coded log reply told now waits can real is carries grew ahead same =
-    subst (λ (l : List LogEntry). IsTaken (flat_map (handed_at m) l) l (packet_of reply) told now) (sym is) (record {
-      taken = one ∷ [];
-      calls = subst (Grew told.calls now.calls) (ap (map with_gave) hands.is_job) grew;
-      handed = sym (append-nil (handed_at m coded.entry) ∙ hands.is_job);
-      bytes = refl;
-      recs = carries.recs ∙ by_shown (is_shown hands.job) (λ (one : Told T). one.gave.rec) (sym hands.shows);
-      stats = carries.stats ∙ by_shown (is_shown hands.job) (λ (one : Told T). one.gave.stats) (sym hands.shows);
-      ahead = ahead-one told hands.job (gave_of coded)
-          (All-head (λ job. IsAhead told job (gave_of coded)) hands.job [] (subst (All (λ job. IsAhead told job (gave_of coded))) hands.is_job ahead));
-      gives = same;
-    })
+-- the coder took the job of an entry, and its packet, if there is one, has its picture and counts
+taken-one : {T O : Type 0} (m : Moment T O) (coded : Coded T) (packets : List (Packet T O)) (told now : CoderTold T) →
+    m.packets + length m.waiting ≡ m.accepted → CanCode m coded.entry.command → IsCoded m told now coded →
+    map (λ packet. option_map (λ rec. rec.value) packet.rec) packets ≡ cond (is_showing coded.entry.command && not coded.entry.trial) ((gave_of coded).rec ∷ []) [] →
+    map (λ packet. packet.enc_stats) packets ≡ cond (is_showing coded.entry.command && not coded.entry.trial) (coded.stats ∷ []) [] →
+    now.gives ≡ told.gives → IsTaken (handed_at m coded.entry) (coded.entry ∷ []) packets told now
+taken-one {T} {O} m coded packets told now waits can is recs stats same = record {
+  taken = one ∷ [];
+  calls = subst (Grew told.calls now.calls) (ap (map with_gave) hands.is_job) is.calls;
+  handed = sym hands.is_job;
+  bytes = refl;
+  recs = recs ∙ by_shown (is_shown hands.job) (λ (one : Told T). one.gave.rec) (sym hands.shows);
+  stats = stats ∙ by_shown (is_shown hands.job) (λ (one : Told T). one.gave.stats) (sym hands.shows);
+  ahead = ahead-one told hands.job (gave_of coded)
+      (All-head (λ job. IsAhead told job (gave_of coded)) hands.job [] (subst (All (λ job. IsAhead told job (gave_of coded))) hands.is_job is.ahead));
+  gives = same;
+}
   where
     hands : HandsOver m coded.entry
-    hands = hands-over m coded.entry waits can real
+    hands = hands-over m coded.entry waits can is.sized
 
     with_gave : Handed T → Told T
     with_gave = λ job. record { handed = job; gave = gave_of coded }
@@ -187,10 +190,38 @@ taken-coded {T} {O} m coded log reply told now waits can real is carries grew ah
     one : Told T
     one = with_gave hands.job
 
-    by_shown : {B : Type 0} (shown : Bool) (f : Told T → B) → is_showing coded.entry.command ≡ shown →
-        cond (is_showing coded.entry.command) (f one ∷ []) [] ≡ map f (cond shown (one ∷ []) [])
+    by_shown : {B : Type 0} (shown : Bool) (f : Told T → B) → (is_showing coded.entry.command && not coded.entry.trial) ≡ shown →
+        cond (is_showing coded.entry.command && not coded.entry.trial) (f one ∷ []) [] ≡ map f (cond shown (one ∷ []) [])
     by_shown true f e = rw e refl
     by_shown false f e = rw e refl
+
+-- of an entry for good
+pub taken-coded : {T O : Type 0} (m : Moment T O) (coded : Coded T) (reply : Reply T O) (told now : CoderTold T) →
+    m.packets + length m.waiting ≡ m.accepted → CanCode m coded.entry.command → coded.entry.trial ≡ false → Carries coded reply → IsCoded m told now coded →
+    now.gives ≡ told.gives → IsTaken (handed_at m coded.entry) (coded.entry ∷ []) (packet_of reply) told now
+taken-coded {T} {O} m coded reply told now waits can real carries is same =
+    let shows : is_showing coded.entry.command ≡ (is_showing coded.entry.command && not coded.entry.trial) = and-real (is_showing coded.entry.command) coded.entry.trial real in
+    taken-one m coded (packet_of reply) told now waits can is
+    (carries.recs ∙ ap (λ (b : Bool). cond b ((gave_of coded).rec ∷ []) []) shows)
+    (carries.stats ∙ ap (λ (b : Bool). cond b (coded.stats ∷ []) []) shows) same
+  where
+    and-real : (shows trial : Bool) → trial ≡ false → shows ≡ (shows && not trial)
+    and-real true trial e = sym (ap not e)
+    and-real false trial e = refl
+
+-- of a try
+pub taken-tried : {T O : Type 0} (m : Moment T O) (coded : Coded T) (told now : CoderTold T) →
+    m.packets + length m.waiting ≡ m.accepted → CanCode m coded.entry.command → coded.entry.trial ≡ true → IsCoded m told now coded →
+    now.gives ≡ told.gives → IsTaken {T = T} {O = O} (handed_at m coded.entry) (coded.entry ∷ []) [] told now
+taken-tried {T} {O} m coded told now waits can tried is same =
+    let hides : (is_showing coded.entry.command && not coded.entry.trial) ≡ false = and-tried (is_showing coded.entry.command) coded.entry.trial tried in
+    taken-one m coded [] told now waits can is
+    (sym (ap (λ (b : Bool). cond b ((gave_of coded).rec ∷ []) []) hides))
+    (sym (ap (λ (b : Bool). cond b (coded.stats ∷ []) []) hides)) same
+  where
+    and-tried : (shows trial : Bool) → trial ≡ true → (shows && not trial) ≡ false
+    and-tried true trial e = ap not e
+    and-tried false trial e = refl
 
 -- ---- what a receive answers
 
@@ -226,33 +257,3 @@ received-refused {T} {O} Holds m entry reply received = by_shown (is_showing ent
 pub decided-zero : (numbers : Numbers) (flushed : Bool) → decided_count numbers 0 flushed ≡ 0
 decided-zero numbers true = omega arith
 decided-zero numbers false = omega arith
-
--- ---- a call of the coder that fails
-
--- nothing was tried before
-pub coding-fails : {T O : Type 0} (enc : EncoderConfig) (moment : Moment T O) (command : Command) (told now : CoderTold T) (fault : SessionFault) →
-    held_back enc moment ≡ None → slice_get (plan_at enc moment) moment.commands ≡ Some command → now.gives ≡ told.gives →
-    FailsCoding moment.commands told now fault → FailsReceiving enc moment told now fault
-coding-fails enc moment command told now (Coder number) due next same fails = record {
-  command = command;
-  trials = [];
-  due = record {
-    due = due;
-    next = sym fails.0;
-    command_of = ap (slice_get (plan_at enc moment)) fails.0 ∙ next;
-  };
-  tried = ([], refl);
-  taken = record {
-    taken = [];
-    calls = fails.1;
-    handed = refl;
-    bytes = refl;
-    recs = refl;
-    stats = refl;
-    ahead = ahead-nothing told;
-    gives = same;
-  };
-  reached = fails.2;
-  rose = fails.3;
-}
-coding-fails enc moment command told now OutOfMemory due next same fails = tt

@@ -3,7 +3,7 @@ use Rattle.std.proofs.Common.{◌≡◌, ℕ, ◌+◌, Bool, true, false, cond, 
 use Rattle.std.specs.List.{slice_get, flat_map}
 use Rattle.std.proofs.lemmas.Bool.{cases_Bool, MatchBool-at_true, MatchBool-at_false, false≢true, or_parts, and_parts}
 use Rattle.std.proofs.lemmas.List.Elements.{filter-append, All-nil}
-use Rattle.std.proofs.lemmas.List.Elements.{All-head, All-tail, All-take}
+use Rattle.std.proofs.lemmas.List.Elements.{All-cons, All-head, All-tail, All-take}
 use Rattle.std.proofs.lemmas.List.{take_at}
 use Rattle.av1_frame.specs.declared.frame.Frame.{Frame}
 use Rattle.av1_frame.specs.Planes.{fits}
@@ -12,11 +12,12 @@ use Rattle.av1_settings.specs.declared.status.EncoderStatus.{EncoderStatus}
 use Rattle.av1_settings.specs.declared.status.EncoderStatus.TheVariants.{NeedMoreData, EnoughData, FrameSizeMismatch, LimitReached, Encoded}
 use Rattle.pyramid.specs.declared.command.Command.{Command}
 use Rattle.pyramid.specs.Settings.{numbers_of}
+use Rattle.session_log.specs.Selection.{is_trial_due}
 use Rattle.session_core.specs.declared.call.Call.{Call}
 use Rattle.session_core.specs.declared.call.Call.TheVariants.{Send, Flush, Receive}
 use Rattle.session_core.specs.declared.packet.Packet.{Packet}
 use Rattle.session_core.specs.declared.transcript.Decision.{Decision}
-use Rattle.session_core.specs.declared.transcript.LogEntry.{LogEntry}
+use Rattle.session_log.specs.declared.entry.LogEntry.{LogEntry}
 use Rattle.session_core.specs.declared.transcript.Reply.{Reply}
 use Rattle.session_core.specs.declared.transcript.Reply.TheVariants.{Sent, Flushed, Packet as GivesPacket, Status}
 use Rattle.session_core.specs.declared.transcript.Turn.{Turn}
@@ -24,7 +25,7 @@ use Rattle.session_core.specs.Decisions.{decisions_at}
 use Rattle.session_core.specs.Moments.{Accepted, Moment, is_complete, plan_at}
 use Rattle.session_core.specs.Sessions.{accepted_by, is_receive}
 use Rattle.session_core.specs.Taken.{packet_of}
-use Rattle.session_core.specs.Turns.{frame_limit, has_enough, sent_reply, accepted_of, after_send, after_flush, Decides, needs_more_data, is_showing, IsNextPacket, AreTrials, BeginTrials, CodesNext, OnlyReplies, held_back, real_entries, noted, noted_all, after_receive, after_turn, IsTurn}
+use Rattle.session_core.specs.Turns.{frame_limit, has_enough, sent_reply, accepted_of, after_send, after_flush, Decides, needs_more_data, is_showing, IsNextPacket, IsTrial, AreTrials, BeginTrials, CodesNext, OnlyReplies, held_back, real_entries, noted, noted_all, after_receive, after_turn, IsTurn}
 
 -- ---- the kinds of turns
 
@@ -65,21 +66,23 @@ pub record EndingTurn {T O : Type 0} (enc : EncoderConfig) (decisions : List Dec
   pub then : after ≡ after_flush enc decisions before
   pub receive : is_receive call ≡ false
 
--- the moment after a command that shows a frame
-abbrev pub with_packet : {T O : Type 0} → Moment T O → Moment T O
-with_packet moment = record moment {
+-- the moment after a command that shows a frame, and the entries of its turn
+abbrev pub with_packet : {T O : Type 0} → Moment T O → List LogEntry → Moment T O
+with_packet moment log = record moment {
   commands = moment.commands + 1;
   packets = moment.packets + 1;
   waiting = drop 1 moment.waiting;
   pending = [];
+  log = moment.log ++ log;
 }
 
 -- the moment after one that shows none
-abbrev pub with_entry : {T O : Type 0} → Moment T O → LogEntry → Moment T O
-with_entry moment entry = record moment {
+abbrev pub with_entry : {T O : Type 0} → Moment T O → LogEntry → List LogEntry → Moment T O
+with_entry moment entry log = record moment {
   commands = moment.commands + 1;
   waiting = noted moment.packets moment.waiting entry;
   pending = moment.pending ++ entry.bytes;
+  log = moment.log ++ log;
 }
 
 -- a trial of a command
@@ -89,7 +92,16 @@ IsTrialOf command entry = (entry.trial ≡ true) × (entry.command ≡ command)
 -- what is tried is marked so, and is the same command
 pub trials-of : {T O : Type 0} (enc : EncoderConfig) (moment : Moment T O) (command : Command) (trials : List LogEntry) →
     AreTrials enc moment command trials → All (IsTrialOf command) trials
-trials-of enc moment command trials are = subst (All (IsTrialOf command)) (sym are) (All-nil (IsTrialOf command))
+trials-of enc moment command trials are = elim (cases_Bool (is_trial_due enc moment.log command)) [
+  | inl due ↦ one (MatchBool-at_true (IsTrial command trials) (trials ≡ []) due are)
+  | inr not_due ↦
+      subst (All (IsTrialOf command)) (sym (MatchBool-at_false (IsTrial command trials) (trials ≡ []) not_due are)) (All-nil (IsTrialOf command))
+]
+  where
+    one : IsTrial command trials → All (IsTrialOf command) trials
+    one is =
+        subst (All (IsTrialOf command)) (sym is.one)
+        (All-cons (IsTrialOf command) is.trial [] (is.tried, is.same) (All-nil (IsTrialOf command)))
 
 -- so is a part of it
 pub trials-begin : {T O : Type 0} (enc : EncoderConfig) (moment : Moment T O) (command : Command) (trials : List LogEntry) →
@@ -104,12 +116,12 @@ pub record GivingTurn {T O : Type 0} (before : Moment T O) (entry : LogEntry) (t
   pub packet : Packet T O
   pub gives : packet_of turn.reply ≡ packet ∷ []
   pub next : IsNextPacket before entry packet
-  pub then : after ≡ with_packet before
+  pub then : after ≡ with_packet before turn.log
 
 pub record HidingTurn {T O : Type 0} (before : Moment T O) (entry : LogEntry) (turn : Turn T O) (after : Moment T O) : Type 0 where
   pub hides : is_showing entry.command ≡ false
   pub none : packet_of turn.reply ≡ []
-  pub then : after ≡ with_entry before entry
+  pub then : after ≡ with_entry before entry turn.log
 
 -- a turn that codes the next command of the plan
 pub record CodingTurn {T O : Type 0} (enc : EncoderConfig) (before : Moment T O) (call : Call T O) (turn : Turn T O) (after : Moment T O) : Type 0 where
@@ -206,7 +218,9 @@ same_after : {T O : Type 0} (moment : Moment T O) (log : List LogEntry) (reply :
     reply ≡ Status status → log ≡ [] → after_receive moment log reply ≡ moment
 same_after {T} {O} moment log reply status is none =
     let counted : ℕ → List ℕ → Moment T O = λ n p. record moment { commands = n; pending = p } in
-    ap₂ (after_receive moment) none is ∙ ap₂ counted (add-zero moment.commands) (append-nil moment.pending)
+    ap₂ (after_receive moment) none is
+    ∙ ap (λ (l : List LogEntry). record (counted (moment.commands + 0) (moment.pending ++ [])) { log = l }) (append-nil moment.log)
+    ∙ ap₂ counted (add-zero moment.commands) (append-nil moment.pending)
 
 status_view : {T O : Type 0} (enc : EncoderConfig) (decisions : List Decision) (moment : Moment T O) (turn : Turn T O) (status : EncoderStatus) →
     (moment.flushed ≡ true → is_complete moment ≡ true) → OnlyReplies turn (Status status) →
@@ -239,17 +253,18 @@ real_log trials entry tried real =
     ∙ ap₂ (λ (a b : List LogEntry). a ++ b) (real_trials entry.command trials tried) (real_one entry real)
 
 module _ {T O : Type 0} (moment : Moment T O) (log : List LogEntry) (entry : LogEntry) (coded : real_entries log ≡ entry ∷ []) where
-  packet_after : (reply : Reply T O) (packet : Packet T O) → reply ≡ GivesPacket packet → after_receive moment log reply ≡ with_packet moment
+  packet_after : (reply : Reply T O) (packet : Packet T O) → reply ≡ GivesPacket packet → after_receive moment log reply ≡ with_packet moment log
   packet_after reply packet is =
-      let counted : ℕ → Moment T O = λ n. record moment { commands = n; packets = moment.packets + 1; waiting = drop 1 moment.waiting; pending = [] } in
+      let counted : ℕ → Moment T O = λ n. record moment { commands = n; packets = moment.packets + 1; waiting = drop 1 moment.waiting; pending = []; log = moment.log ++ log } in
       ap (after_receive moment log) is ∙ ap (λ (l : List LogEntry). counted (moment.commands + length l)) coded
 
-  entry_after : (reply : Reply T O) (status : EncoderStatus) → reply ≡ Status status → after_receive moment log reply ≡ with_entry moment entry
+  entry_after : (reply : Reply T O) (status : EncoderStatus) → reply ≡ Status status → after_receive moment log reply ≡ with_entry moment entry log
   entry_after reply status is =
       let noting : List LogEntry → List ℕ → Moment T O = λ l p. record moment {
         commands = moment.commands + length l;
         waiting = noted_all moment.packets moment.waiting l;
         pending = moment.pending ++ p;
+        log = moment.log ++ log;
       } in
       ap (after_receive moment log) is
       ∙ ap₂ noting coded (ap (λ (l : List LogEntry). flat_map (λ e. e.bytes) l) coded ∙ append-nil entry.bytes)

@@ -13,7 +13,7 @@ use Rattle.pyramid.specs.declared.command.Command.TheVariants.{Code, Show}
 use Rattle.pyramid.specs.Display.{Slots, empty_slots, held, slots_after_one, slots_after}
 use Rattle.session_core.specs.declared.call.Call.{Call}
 use Rattle.session_core.specs.declared.transcript.Decision.{Decision}
-use Rattle.session_core.specs.declared.transcript.LogEntry.{LogEntry}
+use Rattle.session_log.specs.declared.entry.LogEntry.{LogEntry}
 use Rattle.session_core.specs.declared.transcript.Turn.{Turn}
 use Rattle.session_core.specs.Answers.{Codes as IsCodedNext}
 use Rattle.session_core.specs.Moments.{Accepted, Waiting, Moment, opening, waiting_at, plan_at}
@@ -101,17 +101,17 @@ all-append : (high : ℕ) (a b : List LogEntry) → AllBelow high a → AllBelow
 all-append high [] b all more = more
 all-append high (entry ∷ a) b all more = (all.0, all-append high a b all.1 more)
 
-handed_of-sent : {T O : Type 0} (sent more : List (Accepted T O)) (slots : Slots) (command : Command) (trial : Bool) (bytes : List ℕ) → IsBelow (length sent) command →
-    handed_of (sent ++ more) slots (record { command = command; trial = trial; bytes = bytes }) ≡ handed_of sent slots (record { command = command; trial = trial; bytes = bytes })
-handed_of-sent {T} {O} sent more slots (Code frame kind refs refresh shown) trial bytes below =
-    ap (λ (o : Option (Accepted T O)). option_to_list (option_map (job_of (Code frame kind refs refresh shown) trial) o)) (slice_get-front sent more frame below)
-handed_of-sent sent more slots (Show slot) trial bytes below = refl
+handed_of-sent : {T O : Type 0} (sent more : List (Accepted T O)) (slots : Slots) (command : Command) (entry : LogEntry) → IsBelow (length sent) command →
+    handed_of (sent ++ more) slots (record entry { command = command }) ≡ handed_of sent slots (record entry { command = command })
+handed_of-sent {T} {O} sent more slots (Code frame kind refs refresh shown) entry below =
+    ap (λ (o : Option (Accepted T O)). option_to_list (option_map (job_of (record entry { command = Code frame kind refs refresh shown })) o)) (slice_get-front sent more frame below)
+handed_of-sent sent more slots (Show slot) entry below = refl
 
 handed_entries-sent : {T O : Type 0} (sent more : List (Accepted T O)) (slots : Slots) (entries : List LogEntry) → AllBelow (length sent) entries →
     handed_entries (sent ++ more) slots entries ≡ handed_entries sent slots entries
 handed_entries-sent sent more slots [] all = refl
 handed_entries-sent {T} {O} sent more slots (entry ∷ entries) all =
-    ap₂ (λ (a b : List (Handed T)). a ++ b) (handed_of-sent sent more slots entry.command entry.trial entry.bytes all.0)
+    ap₂ (λ (a b : List (Handed T)). a ++ b) (handed_of-sent sent more slots entry.command entry all.0)
     (handed_entries-sent sent more (cond entry.trial slots (slots_after_one slots entry.command)) entries all.1)
 
 -- ---- at a moment
@@ -119,20 +119,20 @@ handed_entries-sent {T} {O} sent more slots (entry ∷ entries) all =
 module _ {T O : Type 0} (enc : EncoderConfig) (whole : List Decision) (moment : Moment T O) (sent : List (Accepted T O)) (done : List Command)
     (sound : IsSound enc whole moment sent done) (command : Command) (next : slice_get (plan_at enc moment) moment.commands ≡ Some command) where
   -- of the next command what is told is what the display machine says, also where it is only tried
-  told_next : (next_one : Command) (trial : Bool) (bytes : List ℕ) → slice_get (plan_at enc moment) moment.commands ≡ Some next_one →
-      handed_at moment (record { command = next_one; trial = trial; bytes = bytes }) ≡ handed_of sent (slots_after empty_slots done) (record { command = next_one; trial = trial; bytes = bytes })
-  told_next (Code frame kind refs refresh shown) trial bytes is =
+  told_next : (next_one : Command) (entry : LogEntry) → slice_get (plan_at enc moment) moment.commands ≡ Some next_one →
+      handed_at moment (record entry { command = next_one }) ≡ handed_of sent (slots_after empty_slots done) (record entry { command = next_one })
+  told_next (Code frame kind refs refresh shown) entry is =
       by_frame (waiting_at moment frame)
       ∙ ap (λ (o : Option (Accepted T O)). option_to_list (option_map with_job o)) (waiting_at-sent moment sent frame sound.frames (can enc whole moment sent done sound (Code frame kind refs refresh shown) is).0)
     where
       with_job : Accepted T O → Handed T
-      with_job = job_of (Code frame kind refs refresh shown) trial
+      with_job = job_of (record entry { command = Code frame kind refs refresh shown })
 
       by_frame : (o : Option (Waiting T O)) →
           option_to_list (option_map (λ waiting. with_job waiting.frame) o) ≡ option_to_list (option_map with_job (option_map frame_of o))
       by_frame None = refl
       by_frame (Some one) = refl
-  told_next (Show slot) trial bytes is =
+  told_next (Show slot) entry is =
       let with_number : ℕ → Handed T = λ frame. ToShow (record { slot = slot; frame = frame }) in
       let holds : held (slots_after empty_slots done) slot ≡ Some moment.packets =
       ap (λ (l : List Command). held (slots_after empty_slots l) slot) sound.commands
@@ -145,7 +145,7 @@ module _ {T O : Type 0} (enc : EncoderConfig) (whole : List Decision) (moment : 
   IsOf entry = entry.command ≡ command
 
   told_one : (entry : LogEntry) → entry.command ≡ command → handed_at moment entry ≡ handed_of sent (slots_after empty_slots done) entry
-  told_one entry is = told_next entry.command entry.trial entry.bytes (next ∙ ap (λ (c : Command). Some c) (sym is))
+  told_one entry is = told_next entry.command entry (next ∙ ap (λ (c : Command). Some c) (sym is))
 
   below_one : (entry : LogEntry) → entry.command ≡ command → IsBelow (length sent) entry.command
   below_one entry is = of_next entry.command (next ∙ ap (λ (c : Command). Some c) (sym is))

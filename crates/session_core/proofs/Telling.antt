@@ -7,10 +7,10 @@ use Rattle.av1_frame.specs.declared.frame.Frame.{Frame}
 use Rattle.av1_settings.specs.declared.encoder_stats.EncoderStats.{EncoderStats}
 use Rattle.session_core.specs.declared.packet.Packet.{Packet}
 use Rattle.session_core.specs.declared.transcript.Decision.{Decision}
-use Rattle.session_core.specs.declared.transcript.LogEntry.{LogEntry}
+use Rattle.session_log.specs.declared.entry.LogEntry.{LogEntry}
 use Rattle.session_core.specs.Questions.{AreAnswered}
 use Rattle.session_core.specs.Taken.{IsTaken, is_shown, shown_ones}
-use Rattle.session_core.specs.Told.{CoderTold, DetectorTold, Gave, Handed, Heard, Told, AreAhead, AreBeforeFault, AreNext, Counts, FailsBehind, Grew, GrowsBy, IsAhead, IsCoderLater, IsDetectorLater, IsLater, OnlyGrew}
+use Rattle.session_core.specs.Told.{CoderTold, DetectorTold, Gave, Handed, Heard, Told, AreAhead, AreBeforeFault, AreNext, Counts, FailsBehind, Grew, GrowsBy, IsAhead, IsCoderLater, IsDetectorLater, IsLater, IsScalesLater, OnlyGrew, ScalesTold}
 
 pub grew-none : {E : Type 0} (told : Option (List E)) → Grew told told []
 grew-none None = tt
@@ -196,11 +196,21 @@ detector-then before between after a b = record {
   answers = b.answers ∙ a.answers;
 }
 
+pub scales-same : {T : Type 0} (told : ScalesTold T) → IsScalesLater told told
+scales-same told = record { frames = only-none told.frames; answers = refl }
+
+pub scales-then : {T : Type 0} (before between after : ScalesTold T) → IsScalesLater before between → IsScalesLater between after → IsScalesLater before after
+scales-then before between after a b = record {
+  frames = only-then before.frames between.frames after.frames a.frames b.frames;
+  answers = b.answers ∙ a.answers;
+}
+
 pub later-same : {T : Type 0} (told : Heard T) → IsLater told told
-later-same told = record { coder = coder-same told.coder; detector = detector-same told.detector }
+later-same told = record { coder = coder-same told.coder; detector = detector-same told.detector; scales = scales-same told.scales }
 
 pub later-then : {T : Type 0} (before between after : Heard T) → IsLater before between → IsLater between after → IsLater before after
 later-then before between after a b = record {
   coder = coder-then before.coder between.coder after.coder a.coder b.coder;
   detector = detector-then before.detector between.detector after.detector a.detector b.detector;
+  scales = scales-then before.scales between.scales after.scales a.scales b.scales;
 }

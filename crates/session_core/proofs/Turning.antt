@@ -1,21 +1,27 @@
 -- A call of a session as one step.
-use Rattle.std.proofs.Common.{◌≡◌, Bool, true, false, cond, [], length, IfOk, Result, Ok, Err, refl}
+use Rattle.std.proofs.Common.{◌≡◌, Bool, true, false, cond, List, [], ◌++◌, length, IfOk, Result, Ok, Err, refl, sym, ap, ◌∙◌, append-nil}
 use Rattle.std.specs.List.{flat_map}
 use Rattle.av1_frame.specs.declared.frame.Frame.{Frame}
 use Rattle.av1_frame.specs.Planes.{fits}
 use Rattle.av1_settings.specs.declared.encoder.EncoderConfig.{EncoderConfig}
 use Rattle.av1_settings.specs.declared.status.EncoderStatus.TheVariants.{EnoughData, FrameSizeMismatch}
+use Rattle.quantizers.specs.Tables.{Tables}
+use Rattle.session_log.specs.declared.entry.LogEntry.{LogEntry}
+use Rattle.session_log.specs.Selection.{reservoir_after}
 use Rattle.session_core.specs.declared.call.Call.{Call}
 use Rattle.session_core.specs.declared.call.Call.TheVariants.{Receive}
 use Rattle.session_core.specs.declared.transcript.Reply.TheVariants.{Sent, Status}
 use Rattle.session_core.specs.declared.transcript.Turn.{Turn}
 use Rattle.session_core.specs.Moments.{Moment}
+use Rattle.session_core.specs.Quantisers.{IsQuantised}
 use Rattle.session_core.specs.Questions.{IsAskedIn}
+use Rattle.session_core.specs.Scales.{IsScaled}
 use Rattle.session_core.specs.Steps.{IsStep}
 use Rattle.session_core.specs.Taken.{IsTaken, handed_at, packet_of}
-use Rattle.session_core.specs.Told.{CoderTold, Counts, DetectorTold, heard}
+use Rattle.session_core.specs.Told.{CoderTold, Counts, DetectorTold, ScalesTold, heard}
 use Rattle.session_core.specs.Turns.{IsTurn, after_receive, after_turn, has_enough, sent_reply}
 use Rattle.session_core.proofs.Deciding.{asked-none}
+use Rattle.session_core.proofs.Scaling.{scaled-none}
 use Rattle.session_core.proofs.Telling.{counts-none, taken-none}
 
 -- a send gives no packet
@@ -28,29 +34,40 @@ sent-packet {T} {O} enc moment picture = by_test (has_enough enc moment) (fits p
     by_test false false = refl
 
 -- a call that codes nothing
-pub quiet-step : {T O : Type 0} (enc : EncoderConfig) (call : Call T O) (turn : Turn T O) (before after : Moment T O) (coder : CoderTold T) (detector now : DetectorTold T) →
-    turn.log ≡ [] → packet_of turn.reply ≡ [] → IsTurn enc after.decisions before call turn → after ≡ after_turn enc after.decisions before call turn →
-    IsAskedIn enc before after detector.questions now.questions detector.answers → IsStep enc call turn before after (heard coder detector) (heard coder now)
-quiet-step {T} {O} enc call turn before after coder detector now log packet is leads asked = record {
+pub quiet-step : {T O : Type 0} (enc : EncoderConfig) (tables : Tables) (call : Call T O) (turn : Turn T O) (before after : Moment T O)
+    (coder : CoderTold T) (detector now : DetectorTold T) (scales : ScalesTold T) →
+    turn.log ≡ [] → turn.reservoir ≡ reservoir_after enc before.log → packet_of turn.reply ≡ [] →
+    IsTurn enc after.decisions before call turn → after ≡ after_turn enc after.decisions before call turn →
+    IsAskedIn enc before after detector.questions now.questions detector.answers →
+    IsStep enc tables call turn before after (heard coder detector scales) (heard coder now scales)
+quiet-step {T} {O} enc tables call turn before after coder detector now scales log reservoir packet is leads asked = record {
   answered = is;
   moment = leads;
+  quantised = record {
+    selected = rw log tt;
+    reservoir = reservoir ∙ ap (reservoir_after enc) (sym (append-nil before.log)) ∙ ap (λ (l : List LogEntry). reservoir_after enc (before.log ++ l)) (sym log);
+  };
   taken = rw (log, packet) (taken-none coder);
   counted = rw log (counts-none coder.fails_after);
   asked = asked;
+  scaled = rw log (scaled-none scales);
 }
 
 -- a receive, which asks nobody
-pub receive-step : {T O E : Type 0} (enc : EncoderConfig) (result : Result (Turn T O) E) (before after : Moment T O) (coder now : CoderTold T) (detector : DetectorTold T) →
+pub receive-step : {T O E : Type 0} (enc : EncoderConfig) (tables : Tables) (result : Result (Turn T O) E) (before after : Moment T O)
+    (coder now : CoderTold T) (detector : DetectorTold T) (scales then : ScalesTold T) →
     IfOk result (λ turn. IsTurn enc after.decisions before Receive turn) → IfOk result (λ turn. after ≡ after_receive before turn.log turn.reply) →
-    IfOk result (λ turn. after.decisions ≡ before.decisions) →
+    IfOk result (λ turn. after.decisions ≡ before.decisions) → IfOk result (λ turn. IsQuantised enc tables before turn) →
     IfOk result (λ turn. IsTaken (flat_map (handed_at before) turn.log) turn.log (packet_of turn.reply) coder now) →
-    IfOk result (λ turn. Counts coder.fails_after now.fails_after (length turn.log)) →
-    IfOk result (λ turn. IsStep enc Receive turn before after (heard coder detector) (heard now detector))
-receive-step enc (Err error) before after coder now detector is leads same taken counted = tt
-receive-step enc (Ok turn) before after coder now detector is leads same taken counted = record {
+    IfOk result (λ turn. Counts coder.fails_after now.fails_after (length turn.log)) → IfOk result (λ turn. IsScaled before turn.log scales then) →
+    IfOk result (λ turn. IsStep enc tables Receive turn before after (heard coder detector scales) (heard now detector then))
+receive-step enc tables (Err error) before after coder now detector scales then is leads same quantised taken counted scaled = tt
+receive-step enc tables (Ok turn) before after coder now detector scales then is leads same quantised taken counted scaled = record {
   answered = is;
   moment = leads;
+  quantised = quantised;
   taken = taken;
   counted = counted;
   asked = asked-none enc before after detector.questions detector.answers same;
+  scaled = scaled;
 }

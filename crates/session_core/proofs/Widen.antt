@@ -51,7 +51,7 @@ module _ {T O : Type 0} (enc : EncoderConfig) (whole more : List Decision) where
   same-send moment frame (Status status) decides = refl
 
   -- each turn is one of the longer list, with the same moment after it
-  widen-turn : (moment : Moment T O) (call : Call T O) (turn : Turn T O) → IsTurn enc whole moment call turn →
+  pub widen-turn : (moment : Moment T O) (call : Call T O) (turn : Turn T O) → IsTurn enc whole moment call turn →
       IsTurn enc (whole ++ more) moment call turn × (after_turn enc (whole ++ more) moment call turn ≡ after_turn enc whole moment call turn)
   widen-turn moment (Send frame parameters) turn is =
       let same = same-send moment (accepted_of frame.value parameters) turn.reply is.1 in

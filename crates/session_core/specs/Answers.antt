@@ -1,10 +1,11 @@
 -- When a session answers other than Ok.
-use Rattle.std.specs.Prelude.{◌≡◌, ℕ, ◌++◌, List, length, take, Some, None}
+use Rattle.std.specs.Prelude.{◌≡◌, ℕ, ℤ, ◌++◌, List, map, length, take, Some, None}
 use Rattle.std.specs.List.{slice_get}
 use Rattle.av1_settings.specs.declared.encoder.EncoderConfig.{EncoderConfig}
 use Rattle.coding_base.specs.Faults.{Rose}
 use Rattle.pyramid.specs.declared.command.Command.{Command}
 use Rattle.pyramid.specs.Display.{empty_slots}
+use Rattle.quantizers.specs.Tables.{Tables}
 use Rattle.session_core.specs.declared.call.Call.{Call}
 use Rattle.session_core.specs.declared.call.Call.TheVariants.{Receive}
 use Rattle.session_core.specs.declared.fault.SessionFault.{SessionFault}
@@ -12,11 +13,13 @@ use Rattle.session_core.specs.declared.fault.SessionFault.TheVariants.{Coder, Ou
 use Rattle.session_core.specs.declared.session.SessionError.{SessionError}
 use Rattle.session_core.specs.declared.session.SessionError.TheVariants.{CoderFault, OutOfMemory as NoMemory}
 use Rattle.session_core.specs.declared.transcript.Decision.{Decision}
-use Rattle.session_core.specs.declared.transcript.LogEntry.{LogEntry}
+use Rattle.session_log.specs.declared.entry.LogEntry.{LogEntry}
 use Rattle.session_core.specs.declared.transcript.Turn.{Turn}
 use Rattle.session_core.specs.Moments.{Moment, plan_at}
 use Rattle.session_core.specs.Questions.{IsAsked}
-use Rattle.session_core.specs.Sessions.{AreTurns, AreKeyDecisions, moment_after, accepted_in, entries_of, commands_of, handed_entries, packets_of}
+use Rattle.session_core.specs.Quantisers.{AreSelected}
+use Rattle.session_core.specs.Scales.{AreScaled, frame_of, frames_of, scales_of}
+use Rattle.session_core.specs.Sessions.{AreQuantised, AreTurns, AreKeyDecisions, moment_after, accepted_in, entries_of, commands_of, handed_entries, packets_of, picture_sent}
 use Rattle.session_core.specs.Taken.{IsTaken}
 use Rattle.session_core.specs.Told.{FailsBehind, Heard}
 use Rattle.session_core.specs.Turns.{BeginTrials, held_back}
@@ -29,12 +32,13 @@ pub record Codes {T O : Type 0} (enc : EncoderConfig) (moment : Moment T O) (num
 
 -- the coder failed in the receive that codes command number `number`: the calls before it were answered as the table says,
 -- and the coder took what they coded, which is the plan's first commands, and what was tried for this command
-pub record FailsAt {T O : Type 0} (enc : EncoderConfig) (calls : List (Call T O)) (before after : Heard T) (number : ℕ) : Type 0 where
+pub record FailsAt {T O : Type 0} (enc : EncoderConfig) (tables : Tables) (calls : List (Call T O)) (before after : Heard T) (number : ℕ) : Type 0 where
   pub done : ℕ
   pub turns : List (Turn T O)
   pub decisions : List Decision
   pub command : Command
   pub trials : List LogEntry
+  pub scales : List ℤ
   pub at_receive : slice_get calls done ≡ Some Receive
   pub answered : AreTurns enc decisions (take done calls) turns
   pub decided : decisions ≡ (moment_after enc decisions (take done calls) turns).decisions
@@ -44,6 +48,14 @@ pub record FailsAt {T O : Type 0} (enc : EncoderConfig) (calls : List (Call T O)
   pub coded : length (commands_of turns) ≡ number
   pub first : commands_of turns ≡ take number (plan_at enc (moment_after enc decisions (take done calls) turns))
   pub tried : BeginTrials enc (moment_after enc decisions (take done calls) turns) command trials
+  -- the quantisers, a try's too, are those selected, and the mean scale was asked for the command's frame too
+  pub quantised : AreQuantised enc tables decisions (take done calls) turns
+  pub selected : AreSelected enc tables (moment_after enc decisions (take done calls) turns) (entries_of turns) trials
+  pub scaled : AreScaled
+      (frames_of (picture_sent (accepted_in (take done calls) turns)) (entries_of turns)
+      ++ frame_of (picture_sent (accepted_in (take done calls) turns)) command)
+      (scales_of (entries_of turns) ++ scales) before.scales after.scales
+  pub alike : map (λ trial. trial.mean_scale) trials ≡ take (length trials) scales
   pub taken : IsTaken
       (handed_entries (accepted_in (take done calls) turns) empty_slots (entries_of turns ++ trials))
       (entries_of turns ++ trials) (packets_of turns) before.coder after.coder

@@ -1,8 +1,6 @@
 -- What contracts see of a context, and what one call of it does.
-use Rattle.std.specs.Prelude.{◌≡◌, ℕ, ◌⊎◌, ⊤, ◌||◌, Bool, pos, int_lt, MatchOption, Option, None, Some, Result, Ok, Err, IsOk}
+use Rattle.std.specs.Prelude.{◌≡◌, ℕ, ◌⊎◌, ⊤, MatchOption, Option, None, Some, Result, Ok, Err, IsOk}
 use Rattle.av1_frame.specs.declared.frame.Frame.{Frame}
-use Rattle.av1_settings.specs.Checks.{asks_passes}
-use Rattle.av1_settings.specs.declared.config.Config.{Config}
 use Rattle.av1_settings.specs.declared.encoder.EncoderConfig.{EncoderConfig}
 use Rattle.av1_settings.specs.declared.status.EncoderStatus.{EncoderStatus}
 use Rattle.av1_settings.specs.declared.status.EncoderStatus.TheVariants.{Failure, OutOfMemory as NoMemory}
@@ -16,21 +14,32 @@ use Rattle.session_core.specs.declared.transcript.Reply.{Reply}
 use Rattle.session_core.specs.declared.transcript.Reply.TheVariants.{Sent, Flushed, Packet as GivesPacket, Status}
 use Rattle.session_core.specs.declared.transcript.Turn.{Turn}
 use Rattle.session_core.specs.Moments.{Moment, opening}
+use Rattle.quantizers.specs.Tables.{Tables}
 use Rattle.session_core.specs.Steps.{Fails, IsStep, Unused, WhereRefused}
 use Rattle.session_core.specs.Told.{Heard, IsLater}
 
--- the settings, the session's moment, the cause of the first call that failed, if one did, and those outside it
-pub record Session (T O D C : Type 0) : Type 0 where
+-- the settings, the quantiser tables, the session's moment, the cause of the first call that failed, if one did, and those
+-- outside it
+pub record Session (T O D S C : Type 0) : Type 0 where
   pub enc : EncoderConfig
+  pub tables : Tables
   pub moment : Moment T O
   pub failure : Option SessionFault
   pub detector : D
+  pub scales : S
   pub coder : C
 
--- a session that hasn't begun, with this detector and this coder
-abbrev pub fresh : {T O D C : Type 0} → EncoderConfig → D → C → Session T O D C
-fresh enc detector coder =
-    record { enc = enc; moment = opening; failure = None; detector = detector; coder = coder }
+-- a session that hasn't begun, with these tables, and with this detector, these mean scales and this coder
+abbrev pub fresh : {T O D S C : Type 0} → EncoderConfig → Tables → D → S → C → Session T O D S C
+fresh enc tables detector scales coder = record {
+  enc = enc;
+  tables = tables;
+  moment = opening;
+  failure = None;
+  detector = detector;
+  scales = scales;
+  coder = coder;
+}
 
 -- what a send or a flush answers: the status of its reply, or only that it is done
 abbrev pub GivesDone : {T O A : Type 0} → Reply T O → Result A EncoderStatus → Type 0
@@ -59,30 +68,32 @@ status_of (Coder command) = Failure
 status_of OutOfMemory = NoMemory
 
 -- a call that was answered as the reply table says; one that is refused changes nothing
-pub record IsAnswered {T O D C A : Type 0} (Gives : Reply T O → Result A EncoderStatus → Type 0) (call : Call T O) (before after : Session T O D C) (told now : Heard T) (result : Result A EncoderStatus) : Type 0 where
+pub record IsAnswered {T O D S C A : Type 0} (Gives : Reply T O → Result A EncoderStatus → Type 0) (call : Call T O) (before after : Session T O D S C) (told now : Heard T) (result : Result A EncoderStatus) : Type 0 where
   pub turn : Turn T O
-  pub step : IsStep before.enc call turn before.moment after.moment told now
+  pub step : IsStep before.enc before.tables call turn before.moment after.moment told now
   pub reply : Gives turn.reply result
   pub settings : after.enc ≡ before.enc
+  pub tables : after.tables ≡ before.tables
   pub unfailed : after.failure ≡ None
   pub refused : WhereRefused turn.reply (after ≡ before)
-  pub unused : Unused call (after.detector ≡ before.detector) (after.coder ≡ before.coder)
+  pub unused : Unused call (after.detector ≡ before.detector) ((after.coder ≡ before.coder) × (after.scales ≡ before.scales))
   pub later : IsLater told now
 
 -- a call that failed, and the session with it: its cause is kept. A fault of the coder leaves the moment as it was; where
 -- memory ran out the moment after is left open
-pub record IsFailed {T O D C A : Type 0} (call : Call T O) (before after : Session T O D C) (told now : Heard T) (result : Result A EncoderStatus) : Type 0 where
+pub record IsFailed {T O D S C A : Type 0} (call : Call T O) (before after : Session T O D S C) (told now : Heard T) (result : Result A EncoderStatus) : Type 0 where
   pub fault : SessionFault
-  pub fails : Fails before.enc call before.moment told now fault
+  pub fails : Fails before.enc before.tables call before.moment told now fault
   pub status : result ≡ Err (status_of fault)
   pub settings : after.enc ≡ before.enc
+  pub tables : after.tables ≡ before.tables
   pub kept : after.failure ≡ Some fault
   pub stays : (number : ℕ) → fault ≡ Coder number → after.moment ≡ before.moment
-  pub unused : Unused call (after.detector ≡ before.detector) (after.coder ≡ before.coder)
+  pub unused : Unused call (after.detector ≡ before.detector) ((after.coder ≡ before.coder) × (after.scales ≡ before.scales))
   pub later : IsLater told now
 
 -- any call: in a session that has failed it fails, and nothing changes
-abbrev pub IsCall : {T O D C A : Type 0} → (Reply T O → Result A EncoderStatus → Type 0) → Call T O → Session T O D C → Session T O D C → Heard T → Heard T → Result A EncoderStatus → Type 0
+abbrev pub IsCall : {T O D S C A : Type 0} → (Reply T O → Result A EncoderStatus → Type 0) → Call T O → Session T O D S C → Session T O D S C → Heard T → Heard T → Result A EncoderStatus → Type 0
 IsCall Gives call before after told now result =
     MatchOption before.failure
     (IsAnswered Gives call before after told now result ⊎ IsFailed call before after told now result)
@@ -95,21 +106,18 @@ Asks (Some picture) parameters (Send frame given) = (frame.value ≡ picture) ×
 Asks (Some picture) parameters call = ⊥
 
 -- memory ran out in a send, and the session failed
-pub record RunsOut {T O D C A : Type 0} (before after : Session T O D C) (told now : Heard T) (result : Result A EncoderStatus) : Type 0 where
+pub record RunsOut {T O D S C A : Type 0} (before after : Session T O D S C) (told now : Heard T) (result : Result A EncoderStatus) : Type 0 where
   pub status : result ≡ Err NoMemory
   pub settings : after.enc ≡ before.enc
+  pub tables : after.tables ≡ before.tables
   pub kept : after.failure ≡ Some OutOfMemory
-  pub unused : after.coder ≡ before.coder
+  pub unused : (after.coder ≡ before.coder) × (after.scales ≡ before.scales)
   pub later : IsLater told now
 
 -- a send of this picture with these parameters, or a flush where there is none
-abbrev pub IsSend : {T O D C A : Type 0} → Option (Frame T) → Option (FrameParameters O) → Session T O D C → Session T O D C → Heard T → Heard T → Result A EncoderStatus → Type 0
+abbrev pub IsSend : {T O D S C A : Type 0} → Option (Frame T) → Option (FrameParameters O) → Session T O D S C → Session T O D S C → Heard T → Heard T → Result A EncoderStatus → Type 0
 IsSend {T} {O} picture parameters before after told now result =
     MatchOption before.failure
     (((call : Call T O) × Asks picture parameters call × IsAnswered GivesDone call before after told now result)
     ⊎ RunsOut before after told now result)
     (λ fault. (result ≡ Err Failure) × (after ≡ before))
-
--- whether a configuration asks for what sessions don't follow yet: pass data, a summary, or a bitrate
-abbrev pub asks_unbuilt : Config → Bool
-asks_unbuilt config = asks_passes config || int_lt (pos 0) config.enc.bitrate

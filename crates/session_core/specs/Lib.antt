@@ -4,7 +4,9 @@ pub mod Decisions
 pub mod Held
 pub mod Moments
 pub mod PacketText
+pub mod Quantisers
 pub mod Questions
+pub mod Scales
 pub mod Sessions
 pub mod States
 pub mod Steps

@@ -11,8 +11,9 @@ use Rattle.av1_settings.specs.Settings.{interval_of}
 use Rattle.pyramid.specs.Settings.{numbers_of}
 use Rattle.pyramid.specs.Plan.{plan}
 use Rattle.pyramid.specs.Known.{known}
-use Rattle.pyramid.specs.Places.{places_from, settled_places}
+use Rattle.pyramid.specs.Guess.{places_ahead as places_from_command}
 use Rattle.session_core.specs.declared.transcript.Decision.{Decision}
+use Rattle.session_log.specs.declared.entry.LogEntry.{LogEntry}
 use Rattle.session_core.specs.Decisions.{keys_of}
 
 -- a frame as it was accepted: its picture, whether it was sent as a key frame, and the value and the metadata sent with it
@@ -22,9 +23,10 @@ pub record Accepted (T O : Type 0) : Type 0 where
   pub opaque : Option O
   pub t35 : List T35
 
--- how a frame was coded
+-- how a frame was coded: its type, and its AC index of the luma plane
 pub record Coding : Type 0 where
   pub kind : FrameType
+  pub qp : ℕ
 
 -- an accepted frame whose packet isn't given, and how it was coded, if it was
 pub record Waiting (T O : Type 0) : Type 0 where
@@ -32,8 +34,8 @@ pub record Waiting (T O : Type 0) : Type 0 where
   pub coded : Option Coding
 
 -- a session at a moment: how many frames were accepted, whether no more come, how many commands were coded and packets
--- given, the decisions made, the frames that wait for their packets (the first is the next packet's), and the bytes coded
--- since the last packet
+-- given, the decisions made, the frames that wait for their packets (the first is the next packet's), the bytes coded since
+-- the last packet, and all entries of the turns so far, tries too
 pub record Moment (T O : Type 0) : Type 0 where
   pub accepted : ℕ
   pub flushed : Bool
@@ -42,6 +44,7 @@ pub record Moment (T O : Type 0) : Type 0 where
   pub decisions : List Decision
   pub waiting : List (Waiting T O)
   pub pending : List ℕ
+  pub log : List LogEntry
 
 abbrev pub opening : {T O : Type 0} → Moment T O
 opening = record {
@@ -52,6 +55,7 @@ opening = record {
   decisions = [];
   waiting = [];
   pending = [];
+  log = [];
 }
 
 -- the frame of a number, while it waits
@@ -78,6 +82,5 @@ known_at enc moment =
 -- the places that are known, from that of the next command on
 abbrev pub places_ahead : {T O : Type 0} → EncoderConfig → Moment T O → List Place
 places_ahead enc moment =
-    places_from moment.commands
-    (settled_places (numbers_of enc) (interval_of enc.max_key_frame_interval) moment.accepted moment.flushed
-    (keys_of moment.accepted moment.decisions))
+    places_from_command (numbers_of enc) (interval_of enc.max_key_frame_interval) moment.accepted moment.flushed
+    (keys_of moment.accepted moment.decisions) moment.commands

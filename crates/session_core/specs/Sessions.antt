@@ -1,19 +1,21 @@
 -- What a whole session promises.
-use Rattle.std.specs.Prelude.{◌≡◌, ℕ, ◌+◌, ◌-◌, ◌/◌, ◌≤◌, ◌⊎◌, Bool, true, false, ◌==◌, IsTrue, if◌then◌else◌, List, [], ◌∷◌, ◌++◌, map, length, take, drop, All, Some}
+use Rattle.std.specs.Prelude.{◌≡◌, ℕ, ◌+◌, ◌-◌, ◌/◌, ◌≤◌, ◌⊎◌, Bool, true, false, ◌==◌, IsTrue, if◌then◌else◌, List, [], ◌∷◌, ◌++◌, map, length, take, drop, All, Option, Some}
 use Rattle.std.specs.Option.{option_map, option_map_or, option_to_list}
-use Rattle.std.specs.List.{flat_map, range_with_len, slice_get, count_by}
+use Rattle.std.specs.List.{find, flat_map, range_with_len, slice_get, count_by}
 use Rattle.coding_base.specs.Runs.{Runs, after_calls}
+use Rattle.av1_frame.specs.declared.frame.Frame.{Frame}
 use Rattle.av1_settings.specs.declared.encoder.EncoderConfig.{EncoderConfig}
 use Rattle.av1_settings.specs.declared.frame_type.FrameType.{FrameType}
 use Rattle.av1_settings.specs.declared.frame_type.FrameType.TheVariants.{KEY}
 use Rattle.pyramid.specs.declared.command.Command.{Command}
 use Rattle.pyramid.specs.declared.command.Command.TheVariants.{Code, Show}
-use Rattle.pyramid.specs.Display.{Slots, empty_slots, held, slots_after_one, accepts, shown}
+use Rattle.quantizers.specs.Tables.{Tables}
+use Rattle.pyramid.specs.Display.{Slots, codes, empty_slots, held, slots_after_one, accepts, shown}
 use Rattle.session_core.specs.declared.call.Call.{Call}
 use Rattle.session_core.specs.declared.call.Call.TheVariants.{Send, Receive}
 use Rattle.session_core.specs.declared.packet.Packet.{Packet}
 use Rattle.session_core.specs.declared.transcript.Decision.{Decision}
-use Rattle.session_core.specs.declared.transcript.LogEntry.{LogEntry}
+use Rattle.session_log.specs.declared.entry.LogEntry.{LogEntry}
 use Rattle.session_core.specs.declared.transcript.Reply.{Reply}
 use Rattle.session_core.specs.declared.transcript.Reply.TheVariants.{Sent}
 use Rattle.session_core.specs.declared.transcript.Transcript.{Transcript}
@@ -22,13 +24,20 @@ use Rattle.session_core.specs.Moments.{Accepted, Moment, opening, plan_at}
 use Rattle.session_core.specs.Questions.{IsAsked}
 use Rattle.session_core.specs.Taken.{IsTaken, job_of, packet_of}
 use Rattle.session_core.specs.Told.{Handed, ToShow, AreBeforeFault, Heard}
-use Rattle.session_core.specs.Turns.{IsTurn, after_turn, accepted_of, real_entries, is_showing, delimiter}
+use Rattle.session_core.specs.Quantisers.{IsQuantised}
+use Rattle.session_core.specs.Scales.{AreScaled, frames_of, scales_of}
+use Rattle.session_core.specs.Turns.{IsTurn, after_turn, accepted_of, luma_index, real_entries, is_showing, delimiter}
 
 -- ---- a list of calls and its turns
 
 -- one turn for each call, each as the reply table says at its moment
 abbrev pub AreTurns : {T O : Type 0} → EncoderConfig → List Decision → List (Call T O) → List (Turn T O) → Type 0
 AreTurns enc decisions calls turns = Runs (IsTurn enc decisions) (after_turn enc decisions) opening calls turns
+
+-- the quantisers of each turn are those that are selected at its moment
+abbrev pub AreQuantised : {T O : Type 0} → EncoderConfig → Tables → List Decision → List (Call T O) → List (Turn T O) → Type 0
+AreQuantised enc tables decisions calls turns =
+    Runs (λ moment call turn. IsQuantised enc tables moment turn) (after_turn enc decisions) opening calls turns
 
 -- the moment after all of them
 abbrev pub moment_after : {T O : Type 0} → EncoderConfig → List Decision → List (Call T O) → List (Turn T O) → Moment T O
@@ -61,6 +70,10 @@ commands_of turns = map (λ entry. entry.command) (real_entries (entries_of turn
 abbrev pub packets_of : {T O : Type 0} → List (Turn T O) → List (Packet T O)
 packets_of turns = flat_map (λ turn. packet_of turn.reply) turns
 
+-- the picture of a frame that was sent
+abbrev pub picture_sent : {T O : Type 0} → List (Accepted T O) → ℕ → Option (Frame T)
+picture_sent sent number = option_map (λ accepted. accepted.picture) (slice_get sent number)
+
 -- ---- the key decisions
 
 -- the decided positions from 1 on, each once; each with the mark of the frame sent under it, and a key where it is forced
@@ -77,7 +90,7 @@ abbrev pub handed_of : {T O : Type 0} → List (Accepted T O) → Slots → LogE
 handed_of sent slots entry =
     elim entry.command [
       | Code frame kind refs refresh shown ↦
-          option_to_list (option_map (job_of entry.command entry.trial) (slice_get sent frame))
+          option_to_list (option_map (job_of entry) (slice_get sent frame))
       | Show slot ↦
           option_to_list (option_map (λ frame. ToShow (record { slot = slot; frame = frame })) (held slots slot))
     ]
@@ -116,13 +129,19 @@ coded_kind (Code frame kind refs refresh shown ∷ commands) number =
     if frame == number then kind else coded_kind commands number
 coded_kind (Show slot ∷ commands) number = coded_kind commands number
 
--- the packets: their bytes, their numbers from 0, the frames sent under these with their opaque values, and the types they
--- were coded with
+-- the luma index with which a frame was coded, among these entries
+abbrev pub coded_qp : List LogEntry → ℕ → ℕ
+coded_qp entries number =
+    option_map_or (λ entry. luma_index entry.quant) (find (λ entry. codes number entry.command) entries) 0
+
+-- the packets: their bytes, their numbers from 0, the frames sent under these with their opaque values, and the types and
+-- luma indices they were coded with
 pub record ArePackets {T O : Type 0} (sent : List (Accepted T O)) (entries : List LogEntry) (packets : List (Packet T O)) : Type 0 where
   pub bytes : map (λ packet. packet.bytes) packets ≡ packet_bytes [] entries
   pub numbers : map (λ packet. packet.input_frameno) packets ≡ range_with_len 0 (length packets)
   pub types : map (λ packet. packet.frame_type) packets
       ≡ map (coded_kind (map (λ entry. entry.command) entries)) (range_with_len 0 (length packets))
+  pub qps : map (λ packet. packet.qp) packets ≡ map (coded_qp entries) (range_with_len 0 (length packets))
   pub sources : map (λ packet. option_map (λ source. source.value) packet.source) packets
       ≡ map (λ accepted. Some accepted.picture) (take (length packets) sent)
   pub opaques : map (λ packet. packet.opaque) packets ≡ map (λ accepted. accepted.opaque) (take (length packets) sent)
@@ -151,7 +170,7 @@ pub record Headline {T O : Type 0} (enc : EncoderConfig) (decisions : List Decis
 -- ---- the whole
 
 -- a session's run: its calls, its transcript, and what those outside told before and after
-pub record IsSessionRun {T O : Type 0} (enc : EncoderConfig) (calls : List (Call T O)) (transcript : Transcript T O) (before after : Heard T) : Type 0 where
+pub record IsSessionRun {T O : Type 0} (enc : EncoderConfig) (tables : Tables) (calls : List (Call T O)) (transcript : Transcript T O) (before after : Heard T) : Type 0 where
   -- the reply table
   pub turns : AreTurns enc transcript.decisions calls transcript.turns
   -- the transcript gives the decisions made by its end, and no more
@@ -160,6 +179,11 @@ pub record IsSessionRun {T O : Type 0} (enc : EncoderConfig) (calls : List (Call
   -- they are the detector's answers, but for the frames sent as key frames
   pub asked : IsAsked enc (accepted_in calls transcript.turns) transcript.decisions before after
   pub headline : Headline enc transcript.decisions calls transcript.turns
+  -- each turn's quantisers are those selected at its moment, and its reservoir the ledger
+  pub quantised : AreQuantised enc tables transcript.decisions calls transcript.turns
+  -- mean scales were asked for the frames sent under the numbers that were coded for good, in their order
+  pub scaled : AreScaled (frames_of (picture_sent (accepted_in calls transcript.turns)) (entries_of transcript.turns))
+      (scales_of (entries_of transcript.turns)) before.scales after.scales
   -- the coder took the commands, played from empty slots, with the frames sent under their numbers
   pub taken : IsTaken
       (handed_entries (accepted_in calls transcript.turns) empty_slots (entries_of transcript.turns))
@@ -174,9 +198,10 @@ pub record IsSameInput {T O : Type 0} (calls : List (Call T O)) (transcript : Tr
   pub frames : accepted_in others other.turns ≡ accepted_in calls transcript.turns
   pub decisions : other.decisions ≡ transcript.decisions
 
--- of two such runs, whatever their calls in between and flushed or not, the commands of the one begin those of the other
+-- of two such runs, whatever their calls in between and their tables, flushed or not, the commands of the one begin those
+-- of the other
 abbrev pub KeepsSchedule : {T O : Type 0} → EncoderConfig → List (Call T O) → Transcript T O → Type 0
 KeepsSchedule {T} {O} enc calls transcript =
-    (others : List (Call T O)) (other : Transcript T O) (before after : Heard T) →
-    IsSessionRun enc others other before after → IsSameInput calls transcript others other →
+    (tables : Tables) (others : List (Call T O)) (other : Transcript T O) (before after : Heard T) →
+    IsSessionRun enc tables others other before after → IsSameInput calls transcript others other →
     IsPrefix (commands_of transcript.turns) (commands_of other.turns) ⊎ IsPrefix (commands_of other.turns) (commands_of transcript.turns)

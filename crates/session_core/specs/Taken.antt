@@ -1,20 +1,24 @@
 -- What a coder took: what it was handed, one for each entry of a log, and what it gave.
 use Rattle.std.specs.Prelude.{◌≡◌, Bool, true, not, ◌&&◌, List, [], ◌∷◌, map, filter}
 use Rattle.std.specs.Option.{option_map, option_to_list}
-use Rattle.pyramid.specs.declared.command.Command.{Command}
 use Rattle.pyramid.specs.declared.command.Command.TheVariants.{Code, Show}
 use Rattle.session_core.specs.declared.packet.Packet.{Packet}
-use Rattle.session_core.specs.declared.transcript.LogEntry.{LogEntry}
+use Rattle.session_log.specs.declared.entry.LogEntry.{LogEntry}
 use Rattle.session_core.specs.declared.transcript.Reply.{Reply}
 use Rattle.session_core.specs.declared.transcript.Reply.TheVariants.{Packet as GivesPacket}
 use Rattle.session_core.specs.Moments.{Accepted, Moment, waiting_at}
 use Rattle.session_core.specs.Told.{CoderTold, Handed, ToCode, ToShow, Told, AreAhead, Grew}
 use Rattle.session_core.specs.Turns.{is_showing}
 
--- the job of a frame: its picture and its metadata
-abbrev pub job_of : {T O : Type 0} → Command → Bool → Accepted T O → Handed T
-job_of command trial frame =
-    ToCode (record { command = command; trial = trial; picture = frame.picture; t35 = frame.t35 })
+-- the job of an entry: its command and quantisers, with the picture and the metadata of its frame
+abbrev pub job_of : {T O : Type 0} → LogEntry → Accepted T O → Handed T
+job_of entry frame = ToCode (record {
+  command = entry.command;
+  trial = entry.trial;
+  quant = entry.quant;
+  picture = frame.picture;
+  t35 = frame.t35;
+})
 
 -- what a coder is handed for an entry at a moment: to code, the frame that waits under its number; to show, the number of
 -- the next packet
@@ -22,7 +26,7 @@ abbrev pub handed_at : {T O : Type 0} → Moment T O → LogEntry → List (Hand
 handed_at moment entry =
     elim entry.command [
       | Code frame kind refs refresh shown ↦
-          option_to_list (option_map (λ waiting. job_of entry.command entry.trial waiting.frame) (waiting_at moment frame))
+          option_to_list (option_map (λ waiting. job_of entry waiting.frame) (waiting_at moment frame))
       | Show slot ↦ ToShow (record { slot = slot; frame = moment.packets }) ∷ []
     ]
 

@@ -1,11 +1,12 @@
--- What a coder and a detector tell of their calls, and of those to come.
-use Rattle.std.specs.Prelude.{◌≡◌, ℕ, ◌-◌, ◌≤◌, Bool, List, [], ◌∷◌, ◌++◌, Option, None, Some, IfSome, Result, Ok, Err, MatchResult, ⊤}
+-- What a coder, a detector and a source of mean scales tell of their calls, and of those to come.
+use Rattle.std.specs.Prelude.{◌≡◌, ℕ, ℤ, ◌-◌, ◌≤◌, Bool, List, [], ◌∷◌, ◌++◌, Option, None, Some, IfSome, Result, Ok, Err, MatchResult, ⊤}
 use Rattle.std.specs.Option.{option_map}
 use Rattle.av1_frame.specs.declared.frame.Frame.{Frame}
 use Rattle.av1_settings.specs.declared.encoder_stats.EncoderStats.{EncoderStats}
 use Rattle.av1_settings.specs.declared.speed.SceneDetectionSpeed.{SceneDetectionSpeed}
 use Rattle.av1_settings.specs.declared.t35.T35.{T35}
 use Rattle.pyramid.specs.declared.command.Command.{Command}
+use Rattle.quantizers.specs.declared.parameters.QuantizerParameters.{QuantizerParameters}
 use Rattle.session_core.specs.declared.coder.CodeJob.{CodeJob}
 use Rattle.session_core.specs.declared.coder.CodedFrame.{CodedFrame}
 use Rattle.session_core.specs.declared.coder.CoderError.{CoderError}
@@ -14,10 +15,11 @@ use Rattle.session_core.specs.declared.coder.ShownFrame.{ShownFrame}
 
 -- ---- what a coder is handed, and what it gives
 
--- a frame to code: the command, whether it is only tried, the picture, and the metadata sent with it
+-- a frame to code: the command, whether it is only tried, the quantisers, the picture, and the metadata sent with it
 pub record Job (T : Type 0) : Type 0 where
   pub command : Command
   pub trial : Bool
+  pub quant : Option QuantizerParameters
   pub picture : Frame T
   pub t35 : List T35
 
@@ -45,6 +47,7 @@ abbrev pub handed_code : {T : Type 0} → CodeJob T → Handed T
 handed_code job = ToCode (record {
   command = job.command;
   trial = job.trial;
+  quant = Some job.quant;
   picture = job.picture.value;
   t35 = job.t35.value;
 })
@@ -103,13 +106,31 @@ pub record DetectorTold (T : Type 0) : Type 0 where
   pub questions : Option (List (Asked T))
   pub answers : Option (ℕ → Bool)
 
+-- ---- what mean scales are asked for
+
+-- a frame whose mean scale was given: its number, its picture, and what was given
+pub record Scaled (T : Type 0) : Type 0 where
+  pub number : ℕ
+  pub picture : Frame T
+  pub answer : ℤ
+
+-- what is told of a frame and its mean scale
+abbrev pub told_scale : {T : Type 0} → ℕ → Frame T → ℤ → Scaled T
+told_scale number picture answer = record { number = number; picture = picture; answer = answer }
+
+-- what a source of mean scales tells: the frames for which it gave one; ahead, of each number, what it gives there
+pub record ScalesTold (T : Type 0) : Type 0 where
+  pub frames : Option (List (Scaled T))
+  pub answers : Option (ℕ → ℤ)
+
 -- what all those outside a session tell
 pub record Heard (T : Type 0) : Type 0 where
   pub coder : CoderTold T
   pub detector : DetectorTold T
+  pub scales : ScalesTold T
 
-abbrev pub heard : {T : Type 0} → CoderTold T → DetectorTold T → Heard T
-heard coder detector = record { coder = coder; detector = detector }
+abbrev pub heard : {T : Type 0} → CoderTold T → DetectorTold T → ScalesTold T → Heard T
+heard coder detector scales = record { coder = coder; detector = detector; scales = scales }
 
 -- ---- what is told grows
 
@@ -139,9 +160,15 @@ pub record IsDetectorLater {T : Type 0} (before after : DetectorTold T) : Type 0
   pub questions : OnlyGrew before.questions after.questions
   pub answers : after.answers ≡ before.answers
 
+-- what a source of mean scales tells later: more frames at most, and ahead the same
+pub record IsScalesLater {T : Type 0} (before after : ScalesTold T) : Type 0 where
+  pub frames : OnlyGrew before.frames after.frames
+  pub answers : after.answers ≡ before.answers
+
 pub record IsLater {T : Type 0} (before after : Heard T) : Type 0 where
   pub coder : IsCoderLater before.coder after.coder
   pub detector : IsDetectorLater before.detector after.detector
+  pub scales : IsScalesLater before.scales after.scales
 
 -- ---- what a coder tells ahead
 

@@ -1,7 +1,7 @@
 -- The reply table: what a session answers to each call, what it codes, and the moment after it.
-use Rattle.std.specs.Prelude.{◌≡◌, ℕ, ◌+◌, ◌-◌, Bool, true, false, not, nat_lt, nat_le, ◌==◌, ◌&&◌, ◌||◌, IsTrue, MatchBool, MatchOption, if◌then◌else◌, List, [], ◌∷◌, ◌++◌, map, filter, length, take, drop, slice_set, All, Option, None, Some}
+use Rattle.std.specs.Prelude.{◌≡◌, ℕ, ◌+◌, ◌-◌, Bool, true, false, not, nat_lt, nat_le, ◌==◌, ◌&&◌, ◌||◌, IsTrue, MatchBool, MatchOption, if◌then◌else◌, List, [], ◌∷◌, ◌++◌, map, filter, length, take, drop, slice_set, All, Option, None, Some, pos}
 use Rattle.std.specs.Option.{option_map, option_map_or, option_or}
-use Rattle.std.specs.List.{flat_map, range_with_len, slice_get, count_by}
+use Rattle.std.specs.List.{flat_map, range_with_len, slice_get, slice_index_or, count_by}
 use Rattle.av1_frame.specs.declared.frame.Frame.{Frame}
 use Rattle.av1_frame.specs.Planes.{fits}
 use Rattle.av1_settings.specs.declared.encoder.EncoderConfig.{EncoderConfig}
@@ -12,6 +12,8 @@ use Rattle.pyramid.specs.declared.command.Command.{Command}
 use Rattle.pyramid.specs.declared.command.Command.TheVariants.{Code, Show}
 use Rattle.pyramid.specs.Settings.{numbers_of}
 use Rattle.pyramid.specs.Known.{is_coding}
+use Rattle.quantizers.specs.declared.parameters.QuantizerParameters.{QuantizerParameters}
+use Rattle.session_log.specs.Selection.{is_trial_due}
 pub use Rattle.pyramid.specs.Display.{shows as is_showing}
 use Rattle.session_core.specs.declared.call.Call.{Call}
 use Rattle.session_core.specs.declared.call.Call.TheVariants.{Send, Flush, Receive}
@@ -19,7 +21,7 @@ use Rattle.session_core.specs.declared.call.FrameParameters.{FrameParameters}
 use Rattle.session_core.specs.declared.call.FrameTypeOverride.TheVariants.{No, Key}
 use Rattle.session_core.specs.declared.packet.Packet.{Packet}
 use Rattle.session_core.specs.declared.transcript.Decision.{Decision}
-use Rattle.session_core.specs.declared.transcript.LogEntry.{LogEntry}
+use Rattle.session_log.specs.declared.entry.LogEntry.{LogEntry}
 use Rattle.session_core.specs.declared.transcript.Reply.{Reply}
 use Rattle.session_core.specs.declared.transcript.Reply.TheVariants.{Sent, Flushed, Packet as GivesPacket, Status}
 use Rattle.session_core.specs.declared.transcript.Turn.{Turn}
@@ -109,17 +111,24 @@ needs_more_data enc moment =
 abbrev pub delimiter : List ℕ
 delimiter = 18 ∷ 0 ∷ []
 
+-- the AC index of the luma plane
+abbrev pub luma_index : Option QuantizerParameters → ℕ
+luma_index quant = option_map_or (λ one. slice_index_or one.ac_qi 0 0) quant 0
+
 -- how an entry codes its frame, if it does
 abbrev pub coding_of : LogEntry → Option Coding
 coding_of entry =
-    elim entry.command [ Code frame kind refs refresh shown ↦ Some (record { kind = kind }) | Show slot ↦ None ]
+    elim entry.command [
+      | Code frame kind refs refresh shown ↦ Some (record { kind = kind; qp = luma_index entry.quant })
+      | Show slot ↦ None
+    ]
 
 -- how the frame was coded that an entry shows: now, or before
 abbrev pub shown_coding : {T O : Type 0} → LogEntry → Waiting T O → Option Coding
 shown_coding entry waiting = option_or (coding_of entry) waiting.coded
 
 -- the packet of the first frame that waits: the delimiter and the bytes since the packet before, the next number, and the
--- frame's picture, opaque value and type
+-- frame's picture, opaque value, type and luma index
 pub record IsNextPacket {T O : Type 0} (moment : Moment T O) (entry : LogEntry) (packet : Packet T O) : Type 0 where
   pub bytes : packet.bytes ≡ delimiter ++ moment.pending ++ entry.bytes
   pub number : packet.input_frameno ≡ moment.packets
@@ -128,6 +137,7 @@ pub record IsNextPacket {T O : Type 0} (moment : Moment T O) (entry : LogEntry) 
   pub source : option_map (λ source. source.value) packet.source ≡ Some first.frame.picture
   pub opaque : packet.opaque ≡ first.frame.opaque
   pub frame_type : Some packet.frame_type ≡ option_map (λ coding. coding.kind) (shown_coding entry first)
+  pub qp : Some packet.qp ≡ option_map (λ coding. coding.qp) (shown_coding entry first)
 
 -- the reply to a receive that coded: a packet where the command shows a frame
 abbrev pub IsReceived : {T O : Type 0} → Moment T O → LogEntry → Reply T O → Type 0
@@ -136,9 +146,18 @@ IsReceived {T} {O} moment entry reply =
     ((packet : Packet T O) × (reply ≡ GivesPacket packet) × IsNextPacket moment entry packet)
     (reply ≡ Status Encoded)
 
--- what is to be tried before a command is coded: nothing yet
+-- one try of a command
+pub record IsTrial (command : Command) (trials : List LogEntry) : Type 0 where
+  pub trial : LogEntry
+  pub one : trials ≡ trial ∷ []
+  pub same : trial.command ≡ command
+  pub tried : trial.trial ≡ true
+
+-- what is tried before a command is coded: the command itself, where there is a bitrate and nothing of its subtype was coded
+-- for good
 abbrev pub AreTrials : {T O : Type 0} → EncoderConfig → Moment T O → Command → List LogEntry → Type 0
-AreTrials enc moment command trials = trials ≡ []
+AreTrials enc moment command trials =
+    MatchBool (is_trial_due enc moment.log command) (IsTrial command trials) (trials ≡ [])
 
 -- a part of it from the front
 abbrev pub BeginTrials : {T O : Type 0} → EncoderConfig → Moment T O → Command → List LogEntry → Type 0
@@ -152,6 +171,8 @@ pub record CodesNext {T O : Type 0} (enc : EncoderConfig) (moment : Moment T O) 
   pub command : slice_get (plan_at enc moment) moment.commands ≡ Some entry.command
   pub tried : AreTrials enc moment entry.command trials
   pub real : entry.trial ≡ false
+  pub alike : All (λ trial. trial.mean_scale ≡ entry.mean_scale) trials
+  pub unscaled : is_coding entry.command ≡ false → entry.mean_scale ≡ pos 0
   pub reply : IsReceived moment entry turn.reply
 
 -- a reply with nothing coded
@@ -191,18 +212,21 @@ abbrev pub noted_all : {T O : Type 0} → ℕ → List (Waiting T O) → List Lo
 noted_all packets waiting [] = waiting
 noted_all packets waiting (entry ∷ entries) = noted_all packets (noted packets waiting entry) entries
 
--- the commands count, the coded frame has its type, and a packet takes the bytes and its frame with it
+-- the log grows, the commands count, the coded frame has its type and its index, and a packet takes the bytes and its frame
+-- with it
 abbrev pub after_receive : {T O : Type 0} → Moment T O → List LogEntry → Reply T O → Moment T O
 after_receive moment log (GivesPacket packet) = record moment {
   commands = moment.commands + length (real_entries log);
   packets = moment.packets + 1;
   waiting = drop 1 moment.waiting;
   pending = [];
+  log = moment.log ++ log;
 }
 after_receive moment log reply = record moment {
   commands = moment.commands + length (real_entries log);
   waiting = noted_all moment.packets moment.waiting (real_entries log);
   pending = moment.pending ++ bytes_of log;
+  log = moment.log ++ log;
 }
 
 -- ---- any call

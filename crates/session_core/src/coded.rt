@@ -1,15 +1,14 @@
 // What the coder gave for a command.
-ghost use Rattle.std.specs.Prelude.{◌≡◌, IsSome, Some, false};
+ghost use Rattle.std.specs.Prelude.{◌≡◌, IsSome, Some};
 ghost use Rattle.std.specs.Option.{option_map};
-ghost use Rattle.session_core.specs.States.{waiting_of};
-ghost use Rattle.session_core.specs.Turns.{is_showing, shown_coding};
+ghost use Rattle.session_core.specs.States.{coding_value, waiting_of};
+ghost use Rattle.session_core.specs.Turns.{coding_of, luma_index, shown_coding};
 
-use crate::LogEntry;
-use crate::waiting::WaitingFrame;
+use crate::waiting::{Coding, WaitingFrame};
 use av1_frame::Frame;
 use av1_settings::{EncoderStats, FrameType};
-use coding_base::Bytes;
 use pyramid::Command;
+use session_log::{LogEntry, QuantizerParameters};
 use std::sync::Arc;
 
 /// What the coder gave for a command.
@@ -23,50 +22,39 @@ pub(crate) struct Coded<T> {
 }
 
 impl<T> Coded<T> {
-    /// What the coder gave for good.
-    pub(crate) fn new(
-        command: Command,
-        bytes: Bytes,
-        rec: Option<Arc<Frame<T>>>,
-        stats: EncoderStats,
-    ) -> Coded<T>
-        ensures { result ≡ record {
-          entry = record { command = command; trial = false; bytes = bytes };
-          rec = rec;
-          stats = stats;
-        } }
-    {
-        Coded {
-            entry: LogEntry {
-                command,
-                trial: false,
-                bytes,
-            },
-            rec,
-            stats,
-        }
-    }
-
-    /// Whether the command shows a frame.
-    pub(crate) fn is_showing(&self) -> bool
-        ensures { result ≡ is_showing self.now.entry.command }
-    {
-        match self.entry.command {
-            Command::Code { shown, .. } => shown,
-            Command::Show { .. } => true,
-        }
-    }
-
-    /// The type of the frame that it shows, which waits.
-    pub(crate) fn shown_kind<O>(&self, waiting: &WaitingFrame<T, O>) -> FrameType
+    /// How the frame was coded that it shows, which waits.
+    pub(crate) fn shown_coding<O>(&self, waiting: &WaitingFrame<T, O>) -> Coding
         ensures { IsSome (shown_coding self.now.entry (waiting_of waiting.now))
-            → Some result
-            ≡ option_map (λ coding. coding.kind)
-            (shown_coding self.now.entry (waiting_of waiting.now)) }
+            → Some (coding_value result)
+            ≡ shown_coding self.now.entry (waiting_of waiting.now) }
     {
-        match self.entry.command {
-            Command::Code { kind, .. } => kind,
-            Command::Show { .. } => waiting.kind.unwrap_or(FrameType::KEY),
-        }
+        const UNCODED: Coding = Coding {
+            kind: FrameType::KEY,
+            qp: 0,
+        };
+        coding_of(&self.entry).or(waiting.coding).unwrap_or(UNCODED)
+    }
+}
+
+/// How an entry codes its frame, if it does.
+pub(crate) fn coding_of(entry: &LogEntry) -> Option<Coding>
+    ensures { option_map coding_value result ≡ coding_of entry.now }
+{
+    match entry.command {
+        Command::Code { kind, .. } => Some(Coding {
+            kind,
+            qp: luma_index(entry.quant),
+        }),
+        Command::Show { .. } => None,
+    }
+}
+
+// The AC index of the luma plane; 0 where there are no quantisers.
+fn luma_index(quant: Option<QuantizerParameters>) -> u8
+    ensures { result ≡ luma_index quant }
+{
+    match quant {
+        Some(quant) => quant.ac_qi[0],
+        None => 0,
     }
 }

@@ -7,6 +7,7 @@ use av1_frame::Frame;
 use av1_settings::{EncoderStats, T35List};
 use coding_base::{Bytes, OutOfMemory};
 use pyramid::Command;
+use session_log::QuantizerParameters;
 use std::alloc::{AllocError, Global};
 use std::sync::Arc;
 use thiserror::Error;
@@ -18,6 +19,8 @@ pub struct CodeJob<T> {
     pub command: Command,
     /// Whether this is only a try, after which the coder's state is as before.
     pub trial: bool,
+    /// The quantisers.
+    pub quant: QuantizerParameters,
     /// The frame as it was sent.
     pub picture: Arc<Frame<T>>,
     /// The metadata that was sent with it.

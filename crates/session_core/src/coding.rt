@@ -1,19 +1,21 @@
 // How a command is coded, and what a receive answers then.
-ghost use Rattle.std.specs.Prelude.{◌≡◌, ◌≤◌, ◌<◌, ◌+◌, [], ◌∷◌, false, All, IfOk, IfErr, OnOk, if◌then◌else◌, drop, length, map};
+ghost use Rattle.std.specs.Prelude.{◌≡◌, ◌≤◌, ◌<◌, ◌+◌, [], ◌∷◌, ◌++◌, List, true, false, IfOk, IfErr, OnOk, if◌then◌else◌, drop, length, map, pos};
 ghost use Rattle.std.specs.Option.{option_map};
+ghost use Rattle.pyramid.specs.Known.{is_coding};
+ghost use Rattle.quantizers.specs.Tables.{Tables};
+ghost use Rattle.session_log.specs.Keeps.{Keeps};
+ghost use Rattle.session_log.specs.declared.entry.LogEntry.{LogEntry as Entry};
 ghost use Rattle.session_core.specs.declared.fault.SessionFault.TheVariants.{Coder};
-ghost use Rattle.session_core.specs.declared.transcript.Reply.TheVariants.{Status};
-ghost use Rattle.session_core.specs.States.{moment_of, gave_of, told_at, Carries, CanCode, FailsCoding};
-ghost use Rattle.session_core.specs.Taken.{handed_at};
-ghost use Rattle.session_core.specs.Told.{Counts, Grew, IsAhead, IsCoderLater};
+ghost use Rattle.session_core.specs.Quantisers.{quantisers_at};
+ghost use Rattle.session_core.specs.States.{moment_of, Carries, CanCode, FailsCoding, IsCoded, IsDue};
+ghost use Rattle.session_core.specs.Told.{IsCoderLater};
 ghost use Rattle.session_core.specs.Turns.{IsNextPacket, IsReceived, after_receive, frame_limit, noted};
 
-use crate::coded::Coded;
+use crate::coded::{Coded, coding_of};
+use crate::guess::ScheduleGuess;
 use crate::state::SessionState;
-use crate::{
-    CodeJob, CoderError, FrameCoder, LogEntry, LogList, Packet, Reply, SessionFault, Turn,
-};
-use av1_settings::EncoderStatus;
+use crate::{CodeJob, CoderError, FrameCoder, LogEntry, Packet, Reply, SessionFault};
+use av1_settings::{EncoderConfig, EncoderStatus};
 use coding_base::{Bytes, OutOfMemory};
 use pyramid::Command;
 use std::alloc::Global;
@@ -23,48 +25,73 @@ use std::sync::Arc;
 const DELIMITER: [u8; 2] = [0x12, 0x00];
 
 impl<T: Drop, O: Drop> SessionState<T, O> {
-    /// Has the coder carry out a command.
+    /// Has the coder carry out a command, as a try or for good, with the quantisers that rate control selects for this mean
+    /// scale.
     pub(crate) fn code<C: FrameCoder<T>>(
         &self,
         alloc: Global,
+        enc: &EncoderConfig,
         coder: &mut C,
-        command: Command,
+        command: &Command,
+        trial: bool,
+        mean_scale: i64,
     ) -> Result<Coded<T>, SessionFault>
         requires waits { self.now.packets + length self.now.waiting.items ≡ self.now.accepted }
-        requires next { CanCode (moment_of self.now) command }
-        ensures command { IfOk result (λ coded. coded.entry.command ≡ command) }
-        ensures real { IfOk result (λ coded. coded.entry.trial ≡ false) }
-        ensures calls { IfOk result (λ coded.
-            Grew (C.told coder.old).calls (C.told coder.new).calls
-            (told_at (moment_of self.now) coded)) }
-        ensures ahead { IfOk result (λ coded.
-            All (λ job. IsAhead (C.told coder.old) job (gave_of coded))
-            (handed_at (moment_of self.now) coded.entry)) }
-        ensures counted { OnOk result
-            (Counts (C.told coder.old).fails_after (C.told coder.new).fails_after 1) }
+        requires next { CanCode (moment_of self.now) command.now }
+        requires due { IsDue enc.now (moment_of self.now) self.now.schedule }
+        requires tried { trial ≡ true → is_coding command.now ≡ true }
+        ensures command { IfOk result (λ coded. coded.entry.command ≡ command.now) }
+        ensures trial { IfOk result (λ coded. coded.entry.trial ≡ trial) }
+        ensures scale { IfOk result (λ coded.
+            coded.entry.mean_scale ≡ (if is_coding command.now then mean_scale else pos 0)) }
+        ensures quant { IfOk result (λ coded. (tables : Tables) (log : List Entry) →
+            Keeps enc.now tables log self.now.rate →
+            coded.entry.quant ≡ quantisers_at enc.now tables (moment_of self.now) log coded.entry) }
+        ensures coded { IfOk result
+            (IsCoded (moment_of self.now) (C.told coder.old) (C.told coder.new)) }
         ensures failed { IfErr result (λ fault.
             FailsCoding self.now.commands (C.told coder.old) (C.told coder.new) fault) }
         ensures later { IsCoderLater (C.told coder.old) (C.told coder.new) }
     {
-        match command {
+        match *command {
             Command::Code { frame, .. } => {
+                let guess = ScheduleGuess { enc, state: self };
+                let quant = self.rate.select(&guess, command, mean_scale);
                 let waiting = &self.waiting[(frame - self.packets) as usize];
                 let job = CodeJob {
-                    command,
-                    trial: false,
+                    command: *command,
+                    trial,
+                    quant,
                     picture: Arc::try_clone(&waiting.picture)?,
                     t35: Arc::try_clone(&waiting.t35)?,
                 };
                 match coder.code(alloc, &job) {
-                    Ok(coded) => Ok(Coded::new(command, coded.bytes, coded.rec, coded.stats)),
+                    Ok(coded) => Ok(Coded {
+                        entry: LogEntry {
+                            command: *command,
+                            trial,
+                            bytes: coded.bytes,
+                            quant: Some(quant),
+                            mean_scale,
+                        },
+                        rec: coded.rec,
+                        stats: coded.stats,
+                    }),
                     Err(error) => Err(self.failed(error)),
                 }
             }
             Command::Show { slot } => match coder.show(alloc, slot, self.packets) {
-                Ok(shown) => {
-                    let bytes = Bytes::from_slice(alloc, &shown.bytes)?;
-                    Ok(Coded::new(command, bytes, shown.rec, shown.stats))
-                }
+                Ok(shown) => Ok(Coded {
+                    entry: LogEntry {
+                        command: *command,
+                        trial: false,
+                        bytes: Bytes::from_slice(alloc, &shown.bytes)?,
+                        quant: None,
+                        mean_scale: 0,
+                    },
+                    rec: shown.rec,
+                    stats: shown.stats,
+                }),
                 Err(error) => Err(self.failed(error)),
             },
         }
@@ -98,13 +125,15 @@ impl<T: Drop, O: Drop> SessionState<T, O> {
             IsReceived (moment_of self.old) coded.old.entry reply) }
         ensures carries { IfOk result (λ reply. Carries coded.old reply) }
         ensures after { IfOk result (λ reply.
-            moment_of self.new
+            record (moment_of self.new) { log = (moment_of self.old).log ++ coded.old.entry ∷ [] }
             ≡ after_receive (moment_of self.old) (coded.old.entry ∷ []) reply) }
+        ensures log { self.new.log ≡ self.old.log }
         ensures last_key { self.new.last_key ≡ self.old.last_key }
         ensures schedule { self.new.schedule ≡ self.old.schedule }
+        ensures rate { self.new.rate ≡ self.old.rate }
         ensures entry { coded.new.entry ≡ coded.old.entry }
     {
-        if coded.is_showing() {
+        if coded.entry.is_showing() {
             let packet = self.packet(alloc, coded)?;
             self.pending.clear();
             self.commands += 1;
@@ -113,23 +142,25 @@ impl<T: Drop, O: Drop> SessionState<T, O> {
         }
         self.pending
             .extend_from_slice(coded.entry.bytes.as_slice())?;
-        self.note_kind(&coded.entry);
+        self.note_coding(&coded.entry);
         self.commands += 1;
         Ok(Reply::Status(EncoderStatus::Encoded))
     }
 
-    // Keeps the type of a coded frame until its packet is given.
-    fn note_kind(&mut self, entry: &LogEntry)
+    // Keeps how a frame was coded until its packet is given.
+    fn note_coding(&mut self, entry: &LogEntry)
         requires waits { self.old.packets + length self.old.waiting.items ≡ self.old.accepted }
         requires next { CanCode (moment_of self.old) entry.now.command }
         ensures after { moment_of self.new
             ≡ record (moment_of self.old)
             { waiting = noted self.old.packets (moment_of self.old).waiting entry.now } }
+        ensures log { self.new.log ≡ self.old.log }
         ensures last_key { self.new.last_key ≡ self.old.last_key }
         ensures schedule { self.new.schedule ≡ self.old.schedule }
+        ensures rate { self.new.rate ≡ self.old.rate }
     {
-        if let Command::Code { frame, kind, .. } = entry.command {
-            self.waiting[(frame - self.packets) as usize].kind = Some(kind);
+        if let Command::Code { frame, .. } = entry.command {
+            self.waiting[(frame - self.packets) as usize].coding = coding_of(entry);
         }
     }
 
@@ -145,8 +176,10 @@ impl<T: Drop, O: Drop> SessionState<T, O> {
         ensures after { OnOk result (
             moment_of self.new
             ≡ record (moment_of self.old) { waiting = drop 1 (moment_of self.old).waiting }) }
+        ensures log { self.new.log ≡ self.old.log }
         ensures last_key { self.new.last_key ≡ self.old.last_key }
         ensures schedule { self.new.schedule ≡ self.old.schedule }
+        ensures rate { self.new.rate ≡ self.old.rate }
     {
         let mut bytes = Vec::from_slice(alloc, &DELIMITER)?;
         bytes.extend_from_slice(&self.pending)?;
@@ -154,25 +187,16 @@ impl<T: Drop, O: Drop> SessionState<T, O> {
         let Some(first) = self.waiting.pop_front() else {
             unreachable!()
         };
+        let coding = coded.shown_coding(&first);
         Ok(Packet {
             bytes: Bytes::from_vec(bytes),
             rec: coded.rec.take(),
-            frame_type: coded.shown_kind(&first),
+            frame_type: coding.kind,
+            qp: coding.qp,
             source: Some(first.picture),
             input_frameno: self.packets,
             enc_stats: coded.stats,
             opaque: first.opaque,
         })
-    }
-}
-
-/// A turn that codes nothing.
-pub(crate) fn status<T, O>(alloc: Global, status: EncoderStatus) -> Turn<T, O>
-    ensures reply { result.reply ≡ Status status }
-    ensures log { result.log ≡ [] }
-{
-    Turn {
-        reply: Reply::Status(status),
-        log: LogList::new(alloc),
     }
 }

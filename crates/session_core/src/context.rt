@@ -3,14 +3,17 @@ ghost use Rattle.av1_frame.specs.Planes.{IsFilled};
 ghost use Rattle.av1_frame.specs.Sizes.{chroma_size};
 ghost use Rattle.av1_settings.specs.declared.config.Config.{Config as Settings};
 ghost use Rattle.av1_settings.specs.declared.invalid.InvalidConfig.{InvalidConfig};
-ghost use Rattle.av1_settings.specs.Checks.{pixel_refusal};
+ghost use Rattle.av1_settings.specs.Checks.{asks_passes, pixel_refusal};
 ghost use Rattle.av1_settings.specs.Header.{container_sequence_header};
 ghost use Rattle.session_core.specs.declared.call.Call.TheVariants.{Flush, Receive};
 ghost use Rattle.session_core.specs.declared.setup.SetupError.TheVariants.{Invalid, Unbuilt};
-ghost use Rattle.session_core.specs.Contexts.{GivesDone, GivesReceived, IsCall, IsSend, asks_unbuilt, fresh};
+ghost use Rattle.session_core.specs.Contexts.{GivesDone, GivesReceived, IsCall, IsSend, fresh};
 ghost use Rattle.session_core.specs.Told.{heard};
 
-use crate::{ContextInner, Detector, FrameCoder, IntoFrame, Packet, SessionFault, SetupError};
+use crate::{
+    ContextInner, Detector, FrameCoder, IntoFrame, MeanScale, Packet, QTables, SessionFault,
+    SetupError,
+};
 use av1_frame::{Frame, Pixel};
 use av1_settings::{Config, EncoderStatus, LevelTables};
 use coding_base::OutOfMemory;
@@ -20,19 +23,25 @@ use std::marker::Model;
 /// An encoding session: frames are sent, and packets are received, one call at a time. Contracts see it as the same record
 /// as [`ContextInner`], on which it stands.
 #[derive(Drop)]
-pub struct Context<T, O, D, C> {
-    inner: ContextInner<T, O, D, C>,
+pub struct Context<T, O, D, S, C> {
+    inner: ContextInner<T, O, D, S, C>,
 }
 
-impl<T, O, D, C> Model for Context<T, O, D, C> {
+impl<T, O, D, S, C> Model for Context<T, O, D, S, C> {
     ghost use Rattle.session_core.specs.Contexts.{Session};
 
-    ghost Value = { Session T O D C };
+    ghost Value = { Session T O D S C };
 
     ghost view = { λ c. c.inner };
 }
 
-impl<T: Pixel, O: Drop, D: Detector<T> + Drop, C: FrameCoder<T> + Drop> Context<T, O, D, C> {
+impl<
+    T: Pixel,
+    O: Drop,
+    D: Detector<T> + Drop,
+    S: MeanScale<T> + Drop,
+    C: FrameCoder<T> + Drop,
+> Context<T, O, D, S, C> {
     /// A frame of the settings' size, each sample the least one. The session stays as it is, also where memory runs out.
     pub fn new_frame(&self, alloc: Global) -> Result<Frame<T>, OutOfMemory>
         ensures y { IfOk result (λ frame.
@@ -56,8 +65,8 @@ impl<T: Pixel, O: Drop, D: Detector<T> + Drop, C: FrameCoder<T> + Drop> Context<
         frame: F,
     ) -> Result<(), EncoderStatus>
         ensures call { IsSend (F.picture frame) (F.parameters frame) self.old self.new
-            (heard (C.told self.old.coder) (D.told self.old.detector))
-            (heard (C.told self.new.coder) (D.told self.new.detector)) result }
+            (heard (C.told self.old.coder) (D.told self.old.detector) (S.told self.old.scales))
+            (heard (C.told self.new.coder) (D.told self.new.detector) (S.told self.new.scales)) result }
     {
         match frame.into(alloc) {
             Ok((frame, parameters)) => self.inner.send_frame(alloc, frame, parameters),
@@ -70,8 +79,8 @@ impl<T: Pixel, O: Drop, D: Detector<T> + Drop, C: FrameCoder<T> + Drop> Context<
     /// The statuses are Failure in a session that has failed, and OutOfMemory, which fails the session.
     pub fn flush(&mut self, alloc: Global) -> Result<(), EncoderStatus>
         ensures call { IsCall GivesDone Flush self.old self.new
-            (heard (C.told self.old.coder) (D.told self.old.detector))
-            (heard (C.told self.new.coder) (D.told self.new.detector)) result }
+            (heard (C.told self.old.coder) (D.told self.old.detector) (S.told self.old.scales))
+            (heard (C.told self.new.coder) (D.told self.new.detector) (S.told self.new.scales)) result }
         ensures again { self.old.failure ≡ None
             → self.old.moment.flushed ≡ true
             → IsOk result × (self.new ≡ self.old) }
@@ -86,8 +95,8 @@ impl<T: Pixel, O: Drop, D: Detector<T> + Drop, C: FrameCoder<T> + Drop> Context<
     /// OutOfMemory, both of which fail the session, or Encoded for a frame that isn't shown yet.
     pub fn receive_packet(&mut self, alloc: Global) -> Result<Packet<T, O>, EncoderStatus>
         ensures call { IsCall GivesReceived Receive self.old self.new
-            (heard (C.told self.old.coder) (D.told self.old.detector))
-            (heard (C.told self.new.coder) (D.told self.new.detector)) result }
+            (heard (C.told self.old.coder) (D.told self.old.detector) (S.told self.old.scales))
+            (heard (C.told self.new.coder) (D.told self.new.detector) (S.told self.new.scales)) result }
     {
         self.inner.receive_packet(alloc)
     }
@@ -116,19 +125,27 @@ pub trait NewContext {
     fn settings(&self) -> &Config
         ensures { result.now ≡ settings self.now };
 
-    /// A session that hasn't begun, for a configuration in one pass without a bitrate. `levels` has the limits of the AV1
-    /// specification's levels.
+    /// A session that hasn't begun, for a configuration in one pass. `levels` has the limits of the AV1
+    /// specification's levels, and `tables` the quantisers by their index.
     ///
     /// The errors are `Invalid`, with the configuration's first refusal, one of which is a bit depth above the pixel type's;
-    /// `Unbuilt` where the configuration is valid and asks for pass data, a summary or a bitrate.
-    final fn new_context<T: Pixel, O: Drop, D: Detector<T> + Drop, C: FrameCoder<T> + Drop>(
+    /// `Unbuilt` where the configuration is valid and asks for pass data or a summary.
+    final fn new_context<
+        T: Pixel,
+        O: Drop,
+        D: Detector<T> + Drop,
+        S: MeanScale<T> + Drop,
+        C: FrameCoder<T> + Drop,
+    >(
         &self,
         alloc: Global,
         levels: &LevelTables,
+        tables: &QTables,
         detector: D,
+        scales: S,
         coder: C,
-    ) -> Result<Context<T, O, D, C>, SetupError>
-        ensures made { IfOk result (λ c. c ≡ fresh (settings self.now).enc detector coder) }
+    ) -> Result<Context<T, O, D, S, C>, SetupError>
+        ensures made { IfOk result (λ c. c ≡ fresh (settings self.now).enc tables.now detector scales coder) }
         ensures invalid { (v : InvalidConfig)
             → result ≡ Err (Invalid v)
             → pixel_refusal T.BITS levels.now (settings self.now) ≡ Some v }
@@ -137,15 +154,23 @@ pub trait NewContext {
             → result ≡ Err (Invalid v) }
         ensures unbuilt { result ≡ Err Unbuilt
             → (pixel_refusal T.BITS levels.now (settings self.now) ≡ None)
-            × IsTrue (asks_unbuilt (settings self.now)) }
+            × IsTrue (asks_passes (settings self.now)) }
         ensures asks { pixel_refusal T.BITS levels.now (settings self.now) ≡ None
-            → IsTrue (asks_unbuilt (settings self.now))
+            → IsTrue (asks_passes (settings self.now))
             → result ≡ Err Unbuilt }
         ensures complete { pixel_refusal T.BITS levels.now (settings self.now) ≡ None
-            → asks_unbuilt (settings self.now) ≡ false
+            → asks_passes (settings self.now) ≡ false
             → IsOk result }
     {
-        let inner = ContextInner::new(alloc, self.settings(), levels, detector, coder)?;
+        let inner = ContextInner::new(
+            alloc,
+            self.settings(),
+            levels,
+            tables,
+            detector,
+            scales,
+            coder,
+        )?;
         Ok(Context { inner })
     }
 }

@@ -3,19 +3,23 @@ ghost use Rattle.std.specs.Prelude.{◌≡◌, ◌≤◌, ◌+◌, ◌-◌, leng
 ghost use Rattle.av1_frame.specs.Planes.{IsFilled};
 ghost use Rattle.av1_frame.specs.Sizes.{chroma_size};
 ghost use Rattle.av1_settings.specs.declared.invalid.InvalidConfig.{InvalidConfig};
-ghost use Rattle.av1_settings.specs.Checks.{pixel_refusal};
+ghost use Rattle.av1_settings.specs.Checks.{asks_passes, pixel_refusal};
 ghost use Rattle.av1_settings.specs.Header.{container_sequence_header};
+ghost use Rattle.session_log.specs.Selection.{rate_after};
 ghost use Rattle.session_core.specs.declared.call.Call.TheVariants.{Flush, Receive};
 ghost use Rattle.session_core.specs.declared.transcript.Reply.TheVariants.{Flushed};
 ghost use Rattle.session_core.specs.declared.setup.SetupError.TheVariants.{Invalid, Unbuilt};
-ghost use Rattle.session_core.specs.Contexts.{GivesDone, GivesReceived, GivesReply, IsCall, IsReceiveReply, IsSend, asks_unbuilt, fresh, Asks};
+ghost use Rattle.session_core.specs.Contexts.{GivesDone, GivesReceived, GivesReply, IsCall, IsReceiveReply, IsSend, fresh, Asks};
 ghost use Rattle.std.specs.Option.{option_map};
 ghost use Rattle.session_core.specs.Moments.{is_complete, places_ahead};
 ghost use Rattle.session_core.specs.Told.{heard};
 ghost use Rattle.session_core.specs.Turns.{needs_more_data};
 
 use crate::state::SessionState;
-use crate::{Call, Detector, FrameCoder, FrameParameters, Packet, Reply, SessionFault, SetupError};
+use crate::{
+    Call, Detector, FrameCoder, FrameParameters, MeanScale, Packet, QTables, RCState, Reply,
+    SessionFault, SetupError,
+};
 use av1_frame::{Frame, Pixel};
 use av1_settings::{Config, EncoderConfig, EncoderStatus, LevelTables, container_sequence_header};
 use coding_base::OutOfMemory;
@@ -23,52 +27,64 @@ use std::alloc::Global;
 use std::marker::Model;
 use std::sync::Arc;
 
-/// A session that is called one call at a time, with its detector and its coder. Contracts see it as a record (`Session`):
-/// the settings, the session's moment, the cause of the first call that failed, the detector and the coder.
+/// A session that is called one call at a time, with its detector, its mean scales and its coder. Contracts see it as a record
+/// (`Session`): the settings, the quantiser tables, the session's moment, the cause of the first call that failed, and those
+/// three.
 ///
 /// Each call is answered as a turn of `run_session` is, at the moment that the calls before it lead to. Where a call fails
 /// its cause is kept, and each later call answers Failure and changes nothing.
 #[derive(Drop)]
-pub struct ContextInner<T, O, D, C> {
+pub struct ContextInner<T, O, D, S, C> {
     enc: EncoderConfig,
     state: SessionState<T, O>,
     failure: Option<SessionFault>,
     detector: D,
+    scales: S,
     coder: C,
 }
 
-impl<T, O, D, C> Model for ContextInner<T, O, D, C> {
+impl<T, O, D, S, C> Model for ContextInner<T, O, D, S, C> {
     ghost use Rattle.session_core.specs.Contexts.{Session};
     ghost use Rattle.session_core.specs.States.{moment_of};
     ghost use Rattle.session_core.specs.Held.{IsHeld};
 
-    ghost Value = { Session T O D C };
+    ghost Value = { Session T O D S C };
 
     ghost view = { λ c. record {
       enc = c.enc;
+      tables = c.state.rate.tables;
       moment = moment_of c.state;
       failure = c.failure;
       detector = c.detector;
+      scales = c.scales;
       coder = c.coder;
     } };
 
     ghost invariant = { λ c. IsHeld c.enc c.state c.failure };
 }
 
-impl<T: Pixel, O: Drop, D: Detector<T> + Drop, C: FrameCoder<T> + Drop> ContextInner<T, O, D, C> {
-    /// A session that hasn't begun, for a configuration in one pass without a bitrate. `levels` has the limits of the AV1
-    /// specification's levels.
+impl<
+    T: Pixel,
+    O: Drop,
+    D: Detector<T> + Drop,
+    S: MeanScale<T> + Drop,
+    C: FrameCoder<T> + Drop,
+> ContextInner<T, O, D, S, C> {
+    /// A session that hasn't begun, for a configuration in one pass. `levels` has the limits of the AV1
+    /// specification's levels, and `tables` the quantisers by their index.
     ///
     /// The errors are `Invalid`, with the configuration's first refusal, one of which is a bit depth above the pixel type's;
-    /// `Unbuilt` where the configuration is valid and asks for pass data, a summary or a bitrate.
+    /// `Unbuilt` where the configuration is valid and asks for pass data or a summary.
     pub fn new(
         alloc: Global,
         cfg: &Config,
         levels: &LevelTables,
+        tables: &QTables,
         detector: D,
+        scales: S,
         coder: C,
-    ) -> Result<ContextInner<T, O, D, C>, SetupError>
-        ensures made { IfOk result (λ c. c ≡ fresh cfg.now.enc detector coder) }
+    ) -> Result<ContextInner<T, O, D, S, C>, SetupError>
+        ensures made { IfOk result (λ c. c ≡ fresh cfg.now.enc tables.now detector scales coder) }
         ensures invalid { (v : InvalidConfig)
             → result ≡ Err (Invalid v)
             → pixel_refusal T.BITS levels.now cfg.now ≡ Some v }
@@ -76,25 +92,26 @@ impl<T: Pixel, O: Drop, D: Detector<T> + Drop, C: FrameCoder<T> + Drop> ContextI
             → pixel_refusal T.BITS levels.now cfg.now ≡ Some v
             → result ≡ Err (Invalid v) }
         ensures unbuilt { result ≡ Err Unbuilt
-            → (pixel_refusal T.BITS levels.now cfg.now ≡ None) × IsTrue (asks_unbuilt cfg.now) }
+            → (pixel_refusal T.BITS levels.now cfg.now ≡ None) × IsTrue (asks_passes cfg.now) }
         ensures asks { pixel_refusal T.BITS levels.now cfg.now ≡ None
-            → IsTrue (asks_unbuilt cfg.now)
+            → IsTrue (asks_passes cfg.now)
             → result ≡ Err Unbuilt }
         ensures complete { pixel_refusal T.BITS levels.now cfg.now ≡ None
-            → asks_unbuilt cfg.now ≡ false
+            → asks_passes cfg.now ≡ false
             → IsOk result }
     {
         if let Err(refusal) = cfg.validate_for_pixel(levels, T::BITS) {
             return Err(SetupError::Invalid(refusal));
         }
-        if asks_unbuilt(cfg) {
+        if asks_passes(cfg) {
             return Err(SetupError::Unbuilt);
         }
         Ok(ContextInner {
             enc: cfg.enc,
-            state: SessionState::new(alloc, &cfg.enc),
+            state: SessionState::new(alloc, &cfg.enc, tables),
             failure: None,
             detector,
+            scales,
             coder,
         })
     }
@@ -111,8 +128,8 @@ impl<T: Pixel, O: Drop, D: Detector<T> + Drop, C: FrameCoder<T> + Drop> ContextI
     ) -> Result<(), EncoderStatus>
         ensures call { IsSend (option_map (λ shared. shared.value) frame) params
             self.old self.new
-            (heard (C.told self.old.coder) (D.told self.old.detector))
-            (heard (C.told self.new.coder) (D.told self.new.detector)) result }
+            (heard (C.told self.old.coder) (D.told self.old.detector) (S.told self.old.scales))
+            (heard (C.told self.new.coder) (D.told self.new.detector) (S.told self.new.scales)) result }
     {
         done(self.call(alloc, sending(frame, params)))
     }
@@ -122,8 +139,8 @@ impl<T: Pixel, O: Drop, D: Detector<T> + Drop, C: FrameCoder<T> + Drop> ContextI
     /// The statuses are Failure in a session that has failed, and OutOfMemory, which fails the session.
     pub fn flush(&mut self, alloc: Global) -> Result<(), EncoderStatus>
         ensures call { IsCall GivesDone Flush self.old self.new
-            (heard (C.told self.old.coder) (D.told self.old.detector))
-            (heard (C.told self.new.coder) (D.told self.new.detector)) result }
+            (heard (C.told self.old.coder) (D.told self.old.detector) (S.told self.old.scales))
+            (heard (C.told self.new.coder) (D.told self.new.detector) (S.told self.new.scales)) result }
         ensures again { self.old.failure ≡ None
             → self.old.moment.flushed ≡ true
             → IsOk result × (self.new ≡ self.old) }
@@ -138,8 +155,8 @@ impl<T: Pixel, O: Drop, D: Detector<T> + Drop, C: FrameCoder<T> + Drop> ContextI
     /// OutOfMemory, both of which fail the session, or Encoded for a frame that isn't shown yet.
     pub fn receive_packet(&mut self, alloc: Global) -> Result<Packet<T, O>, EncoderStatus>
         ensures call { IsCall GivesReceived Receive self.old self.new
-            (heard (C.told self.old.coder) (D.told self.old.detector))
-            (heard (C.told self.new.coder) (D.told self.new.detector)) result }
+            (heard (C.told self.old.coder) (D.told self.old.detector) (S.told self.old.scales))
+            (heard (C.told self.new.coder) (D.told self.new.detector) (S.told self.new.scales)) result }
     {
         received(self.call(alloc, Call::Receive))
     }
@@ -147,8 +164,8 @@ impl<T: Pixel, O: Drop, D: Detector<T> + Drop, C: FrameCoder<T> + Drop> ContextI
     // Carries out a call, and keeps the cause where it fails.
     fn call(&mut self, alloc: Global, call: Call<T, O>) -> Result<Reply<T, O>, EncoderStatus>
         ensures call { IsCall GivesReply call self.old self.new
-            (heard (C.told self.old.coder) (D.told self.old.detector))
-            (heard (C.told self.new.coder) (D.told self.new.detector)) result }
+            (heard (C.told self.old.coder) (D.told self.old.detector) (S.told self.old.scales))
+            (heard (C.told self.new.coder) (D.told self.new.detector) (S.told self.new.scales)) result }
         ensures again { call ≡ Flush
             → self.old.failure ≡ None
             → self.old.moment.flushed ≡ true
@@ -157,7 +174,14 @@ impl<T: Pixel, O: Drop, D: Detector<T> + Drop, C: FrameCoder<T> + Drop> ContextI
         if self.failure.is_some() {
             return Err(EncoderStatus::Failure);
         }
-        let turn = self.state.turn(alloc, &self.enc, &mut self.detector, &mut self.coder, call);
+        let turn = self.state.turn(
+            alloc,
+            &self.enc,
+            &mut self.detector,
+            &mut self.scales,
+            &mut self.coder,
+            call,
+        );
         match turn {
             Ok(turn) => Ok(turn.reply),
             Err(fault) => {
@@ -207,6 +231,14 @@ impl<T: Pixel, O: Drop, D: Detector<T> + Drop, C: FrameCoder<T> + Drop> ContextI
         ensures { result ≡ self.now.failure }
     {
         self.failure
+    }
+
+    /// The state of the rate controller. No memory is taken.
+    pub fn rc(&self) -> &RCState
+        ensures { self.now.failure ≡ None
+            → result.now ≡ rate_after self.now.enc self.now.moment.log }
+    {
+        self.state.rate.state()
     }
 
     /// Whether a receive would answer NeedMoreData. A session that has failed wants nothing. No memory is taken.
@@ -261,11 +293,11 @@ impl<T: Pixel, O: Drop, D: Detector<T> + Drop, C: FrameCoder<T> + Drop> ContextI
     }
 }
 
-// Whether a configuration asks for what sessions don't follow yet.
-fn asks_unbuilt(cfg: &Config) -> bool
-    ensures { result ≡ asks_unbuilt cfg.now }
+// Whether a configuration asks for pass data or gives a summary, which sessions don't follow yet.
+fn asks_passes(cfg: &Config) -> bool
+    ensures { result ≡ asks_passes cfg.now }
 {
-    cfg.rate_control.emit_data || cfg.rate_control.summary.is_some() || cfg.enc.bitrate > 0
+    cfg.rate_control.emit_data || cfg.rate_control.summary.is_some()
 }
 
 // What a frame and its parameters ask for.

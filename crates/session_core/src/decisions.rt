@@ -33,6 +33,7 @@ impl<T: Drop, O: Drop> SessionState<T, O> {
         ensures decided { OnOk result (Decided mode self.old self.new
             (D.told detector.old).questions (D.told detector.new).questions
             (D.told detector.old).answers last) }
+        ensures rate { self.new.rate ≡ self.old.rate }
         ensures later { IsDetectorLater (D.told detector.old) (D.told detector.new) }
     {
         for position in self.decisions.len() as u64 + 1..last + 1 {
@@ -58,6 +59,7 @@ impl<T: Drop, O: Drop> SessionState<T, O> {
         ensures decided { OnOk result (Decided mode self.old self.new
             (D.told detector.old).questions (D.told detector.new).questions
             (D.told detector.old).answers position) }
+        ensures rate { self.new.rate ≡ self.old.rate }
         ensures later { IsDetectorLater (D.told detector.old) (D.told detector.new) }
     {
         let forced = self.waiting[(position - self.packets) as usize].forced;

@@ -10,7 +10,9 @@ mod context_inner;
 mod decisions;
 mod detector;
 mod fault;
+mod guess;
 mod into_frame;
+mod mean_scale;
 mod packet;
 mod receive;
 mod session;
@@ -29,9 +31,9 @@ pub use context_inner::ContextInner;
 pub use detector::{Detector, NoDetector};
 pub use fault::SessionFault;
 pub use into_frame::{FrameInput, IntoFrame};
+pub use mean_scale::{MeanScale, NoScale};
 pub use packet::Packet;
 pub use session::{SessionError, run_session};
+pub use session_log::{LogEntry, LogList, QTables, QuantizerParameters, RCState};
 pub use setup::SetupError;
-pub use transcript::{
-    Decision, DecisionList, LogEntry, LogList, Reply, Transcript, Turn, TurnList,
-};
+pub use transcript::{Decision, DecisionList, Reply, Transcript, Turn, TurnList};

@@ -17,6 +17,8 @@ pub struct Packet<T, O> {
     pub input_frameno: u64,
     /// The frame's type; of a frame that was coded before and is shown now, the type that it was coded with.
     pub frame_type: FrameType,
+    /// The frame's AC index of the luma plane, 0 to 255; of a frame that was coded before, the one that it was coded with.
+    pub qp: u8,
     /// What the coder chose in the packet's last command.
     pub enc_stats: EncoderStats,
     /// The value that was sent with the frame.
@@ -45,16 +47,18 @@ impl<T, O> PartialEq for Packet<T, O> {
     ghost use Rattle.std.specs.Cmp.Rules.{comparing};
     ghost use Rattle.std.specs.Ordering.{on, eq_of_both};
 
-    // Equal bytes, numbers and types; the frames and opaque values don't count.
+    // Equal bytes, numbers, types and indices; the frames and opaque values don't count.
     ghost eq = { eq_of_both (on (λ p. p.bytes) (pointwise ◌==◌))
         (eq_of_both (on (λ p. p.input_frameno) ◌==◌)
-        (on (λ p. p.frame_type) ⟦<FrameType as PartialEq>⟧.eq)) };
+        (eq_of_both (on (λ p. p.frame_type) ⟦<FrameType as PartialEq>⟧.eq)
+        (on (λ p. p.qp) ◌==◌))) };
 
-    ghost laws = { Prim.search (comparing, rules, laws-law) depth 9 };
+    ghost laws = { Prim.search (comparing, rules, laws-law) depth 11 };
 
     fn eq(&self, other: &Packet<T, O>) -> bool {
         self.bytes.as_slice() == other.bytes.as_slice()
             && self.input_frameno == other.input_frameno
             && self.frame_type == other.frame_type
+            && self.qp == other.qp
     }
 }

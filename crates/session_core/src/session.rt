@@ -1,8 +1,8 @@
-ghost use Rattle.std.specs.Prelude.{◌≡◌, ◌⊎◌, ℕ, None, Some, Err, IfOk, IsOk, pos, ◌<ℤ◌};
+ghost use Rattle.std.specs.Prelude.{◌≡◌, ◌⊎◌, ℕ, None, Some, Err, IfOk, IsOk};
 ghost use Rattle.coding_base.specs.Faults.{Rose};
 ghost use Rattle.av1_settings.specs.declared.invalid.InvalidConfig.{InvalidConfig};
 ghost use Rattle.av1_settings.specs.Checks.{session_refusal};
-ghost use Rattle.session_core.specs.declared.session.SessionError.TheVariants.{Invalid, CoderFault, Unbuilt};
+ghost use Rattle.session_core.specs.declared.session.SessionError.TheVariants.{Invalid, CoderFault};
 ghost use Rattle.session_core.specs.Answers.{FailsAt};
 ghost use Rattle.session_core.specs.Moments.{opening};
 ghost use Rattle.session_core.specs.Sessions.{IsSessionRun, KeepsSchedule, moment_after};
@@ -10,7 +10,10 @@ ghost use Rattle.session_core.specs.Steps.{AreSteps};
 ghost use Rattle.session_core.specs.Told.{heard, IsLater};
 
 use crate::state::SessionState;
-use crate::{Call, DecisionList, Detector, FrameCoder, SessionFault, Transcript, TurnList};
+use crate::{
+    Call, DecisionList, Detector, FrameCoder, MeanScale, QTables, SessionFault, Transcript,
+    TurnList,
+};
 use av1_frame::Pixel;
 use av1_settings::{Config, InvalidConfig, LevelTables};
 use coding_base::OutOfMemory;
@@ -32,9 +35,6 @@ pub enum SessionError {
     /// Memory ran out.
     #[error("out of memory")]
     OutOfMemory,
-    /// A bitrate is asked for, which sessions don't follow yet.
-    #[error("sessions with a bitrate aren't built yet")]
-    Unbuilt,
 }
 
 impl From<OutOfMemory> for SessionError {
@@ -86,32 +86,36 @@ impl<T: Drop> From<AllocFailed<T>> for SessionError {
 
 /// Carries out a list of calls in order, has the coder code what their plan asks for, and says of each call what it answered
 /// and coded. The plan is that of the frames accepted and the keys decided so far (docs/RULES.md). `detector` is asked once of
-/// each frame that is decided and wasn't sent as a key frame. `levels` has the limits of the AV1 specification's levels,
-/// against which the configuration is checked.
+/// each frame that is decided and wasn't sent as a key frame, `scales` once of each frame that is coded. `levels` has the limits
+/// of the AV1 specification's levels, against which the configuration is checked, and `tables` the quantisers by their index.
+///
+/// With a bitrate the first command of each subtype is tried before it is coded, and quantisers follow the bits that were
+/// spent; without one they are those of the settings' index.
 ///
 /// The errors are `Invalid`, with the configuration's first refusal, one of which is a bit depth above the pixel type's;
-/// `Unbuilt` where a bitrate is asked for; `CoderFault` where the coder failed; `OutOfMemory`, also where the detector found
-/// no memory.
-pub fn run_session<T: Pixel, O: Drop, D: Detector<T>, C: FrameCoder<T>>(
+/// `CoderFault` where the coder failed; `OutOfMemory`, also where the detector or the mean scales found no memory.
+pub fn run_session<T: Pixel, O: Drop, D: Detector<T>, S: MeanScale<T>, C: FrameCoder<T>>(
     alloc: Global,
     cfg: &Config,
     levels: &LevelTables,
+    tables: &QTables,
     detector: &mut D,
+    scales: &mut S,
     coder: &mut C,
     calls: Vec<Call<T, O>>,
 ) -> Result<Transcript<T, O>, SessionError>
     // The headline, and what stands beside it.
     ensures session { IfOk result (λ t.
-        IsSessionRun cfg.now.enc calls.items t
-        (heard (C.told coder.old) (D.told detector.old))
-        (heard (C.told coder.new) (D.told detector.new))) }
+        IsSessionRun cfg.now.enc tables.now calls.items t
+        (heard (C.told coder.old) (D.told detector.old) (S.told scales.old))
+        (heard (C.told coder.new) (D.told detector.new) (S.told scales.new))) }
 
     // It is made of steps, each as one call of a context is.
     ensures steps { IfOk result (λ t.
-        AreSteps cfg.now.enc calls.items t.turns opening
+        AreSteps cfg.now.enc tables.now calls.items t.turns opening
         (moment_after cfg.now.enc t.decisions calls.items t.turns)
-        (heard (C.told coder.old) (D.told detector.old))
-        (heard (C.told coder.new) (D.told detector.new))) }
+        (heard (C.told coder.old) (D.told detector.old) (S.told scales.old))
+        (heard (C.told coder.new) (D.told detector.new) (S.told scales.new))) }
 
     // Other calls between the same frames, with the same decisions, give the same commands as far as both go.
     ensures schedules { IfOk result (λ t. KeepsSchedule cfg.now.enc calls.items t) }
@@ -123,40 +127,29 @@ pub fn run_session<T: Pixel, O: Drop, D: Detector<T>, C: FrameCoder<T>>(
     ensures refused { (v : InvalidConfig)
         → session_refusal T.BITS levels.now cfg.now ≡ Some v
         → result ≡ Err (Invalid v) }
-    ensures unbuilt { result ≡ Err Unbuilt
-        → (session_refusal T.BITS levels.now cfg.now ≡ None) × (pos 0 <ℤ cfg.now.enc.bitrate) }
-    ensures bitrate { session_refusal T.BITS levels.now cfg.now ≡ None
-        → pos 0 <ℤ cfg.now.enc.bitrate
-        → result ≡ Err Unbuilt }
     ensures fault { (command : ℕ)
         → result ≡ Err (CoderFault command)
-        → FailsAt cfg.now.enc calls.items
-        (heard (C.told coder.old) (D.told detector.old))
-        (heard (C.told coder.new) (D.told detector.new)) command }
+        → FailsAt cfg.now.enc tables.now calls.items
+        (heard (C.told coder.old) (D.told detector.old) (S.told scales.old))
+        (heard (C.told coder.new) (D.told detector.new) (S.told scales.new)) command }
     ensures complete { session_refusal T.BITS levels.now cfg.now ≡ None
-        → ¬ (pos 0 <ℤ cfg.now.enc.bitrate)
         → ¬ Rose (C.told coder.old).faults (C.told coder.new).faults
         → IsOk result ⊎ (result ≡ Err SessionError.OutOfMemory) }
 
-    // What coder and detector tell goes on; neither is called where the session doesn't begin.
-    ensures later { IsLater (heard (C.told coder.old) (D.told detector.old))
-        (heard (C.told coder.new) (D.told detector.new)) }
+    // What those outside tell goes on; none of them is called where the session doesn't begin.
+    ensures later { IsLater (heard (C.told coder.old) (D.told detector.old) (S.told scales.old))
+        (heard (C.told coder.new) (D.told detector.new) (S.told scales.new)) }
     ensures untouched { (v : InvalidConfig)
         → session_refusal T.BITS levels.now cfg.now ≡ Some v
-        → (coder.new ≡ coder.old) × (detector.new ≡ detector.old) }
-    ensures unstarted { result ≡ Err Unbuilt
-        → (coder.new ≡ coder.old) × (detector.new ≡ detector.old) }
+        → (coder.new ≡ coder.old) × (detector.new ≡ detector.old) × (scales.new ≡ scales.old) }
 {
     if let Err(refusal) = cfg.validate_for_session(levels, T::BITS) {
         return Err(SessionError::Invalid(refusal));
     }
-    if cfg.enc.bitrate > 0 {
-        return Err(SessionError::Unbuilt);
-    }
-    let mut state = SessionState::new(alloc, &cfg.enc);
+    let mut state = SessionState::new(alloc, &cfg.enc, tables);
     let mut turns = Vec::new(alloc);
     for call in calls {
-        match state.turn(alloc, &cfg.enc, detector, coder, call) {
+        match state.turn(alloc, &cfg.enc, detector, scales, coder, call) {
             Ok(turn) => turns.push(turn)?,
             Err(fault) => return Err(SessionError::from(fault)),
         }

@@ -10,7 +10,7 @@ pub enum SetupError {
     /// Memory ran out.
     #[error("out of memory")]
     OutOfMemory,
-    /// A bitrate or a pass is asked for, which sessions don't follow yet.
-    #[error("sessions with a bitrate or in two passes aren't built yet")]
+    /// Pass data is asked for or a summary given, which sessions don't follow yet.
+    #[error("sessions in two passes aren't built yet")]
     Unbuilt,
 }

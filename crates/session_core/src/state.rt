@@ -1,5 +1,11 @@
 // The state of a session, and what a send and a flush do to it.
-ghost use Rattle.std.specs.Prelude.{◌≡◌, ℕ, true, Ok, Err, IfOk, IfErr, IsOk, OnOk};
+ghost use Rattle.std.specs.Prelude.{◌≡◌, ℕ, List, [], true, Ok, Err, IfOk, IfErr, IsOk, OnOk};
+ghost use Rattle.av1_settings.specs.declared.encoder.EncoderConfig.{EncoderConfig as Settings};
+ghost use Rattle.av1_settings.specs.Checks.{IsValid};
+ghost use Rattle.quantizers.specs.Tables.{Tables};
+ghost use Rattle.session_log.specs.declared.entry.LogEntry.{LogEntry as Entry};
+ghost use Rattle.session_log.specs.Keeps.{Keeps};
+ghost use Rattle.session_log.specs.Selection.{reservoir_after};
 ghost use Rattle.session_core.specs.declared.call.Call.TheVariants.{Flush};
 ghost use Rattle.session_core.specs.declared.fault.SessionFault.TheVariants.{Coder};
 ghost use Rattle.session_core.specs.declared.transcript.Reply.TheVariants.{Flushed};
@@ -12,12 +18,15 @@ ghost use Rattle.session_core.specs.Turns.{Decides, accepted_of, after_flush, af
 
 use crate::waiting::WaitingFrame;
 use crate::{
-    Call, Decision, Detector, FrameCoder, FrameParameters, LogList, Reply, SessionFault, Turn,
+    Call, Decision, Detector, FrameCoder, FrameParameters, LogEntry, LogList, MeanScale, Reply,
+    SessionFault, Turn,
 };
 use av1_frame::Frame;
 use av1_settings::{EncoderConfig, EncoderStatus};
 use coding_base::OutOfMemory;
+use http_server::Log;
 use pyramid::{InterConfig, Schedule};
+use session_log::{QTables, SessionRate};
 use std::alloc::Global;
 use std::collections::VecDeque;
 use std::sync::Arc;
@@ -46,12 +55,18 @@ pub(crate) struct SessionState<T, O> {
     pub(crate) waiting: VecDeque<WaitingFrame<T, O>>,
     /// The bytes coded since the last packet.
     pub(crate) pending: Vec<u8>,
+    /// The rate control.
+    pub(crate) rate: SessionRate,
+    /// All that the coder was asked for; for contracts alone, without memory.
+    pub(crate) log: Log<LogEntry, ()>,
 }
 
 impl<T, O> SessionState<T, O> {
-    pub(crate) fn new(alloc: Global, enc: &EncoderConfig) -> SessionState<T, O>
+    pub(crate) fn new(alloc: Global, enc: &EncoderConfig, tables: &QTables) -> SessionState<T, O>
+        requires valid { IsValid enc.now }
         ensures moment { moment_of result ≡ opening }
         ensures kept { IsKept enc.now result }
+        ensures tables { result.rate.tables ≡ tables.now }
     {
         let schedule = Schedule::new(alloc, InterConfig::new(enc), enc.key_frame_interval());
         SessionState {
@@ -64,52 +79,70 @@ impl<T, O> SessionState<T, O> {
             schedule,
             waiting: VecDeque::new(alloc),
             pending: Vec::new(alloc),
+            rate: SessionRate::new(alloc, enc, tables),
+            log: Log::new(),
         }
     }
 }
 
 impl<T: Drop, O: Drop> SessionState<T, O> {
     /// What one call answers and codes.
-    pub(crate) fn turn<D: Detector<T>, C: FrameCoder<T>>(
+    pub(crate) fn turn<D: Detector<T>, S: MeanScale<T>, C: FrameCoder<T>>(
         &mut self,
         alloc: Global,
         enc: &EncoderConfig,
         detector: &mut D,
+        scales: &mut S,
         coder: &mut C,
         call: Call<T, O>,
     ) -> Result<Turn<T, O>, SessionFault>
         requires ready { IsReady enc.now (moment_of self.old) }
         requires kept { IsKept enc.now self.old }
         ensures step { IfOk result (λ turn.
-            IsStep enc.now call turn (moment_of self.old) (moment_of self.new)
-            (heard (C.told coder.old) (D.told detector.old))
-            (heard (C.told coder.new) (D.told detector.new))) }
+            IsStep enc.now self.old.rate.tables call turn (moment_of self.old) (moment_of self.new)
+            (heard (C.told coder.old) (D.told detector.old) (S.told scales.old))
+            (heard (C.told coder.new) (D.told detector.new) (S.told scales.new))) }
         ensures refused { IfOk result (λ turn.
             WhereRefused turn.reply ((self.new ≡ self.old)
-            × (detector.new ≡ detector.old) × (coder.new ≡ coder.old))) }
-        ensures unused { Unused call (detector.new ≡ detector.old) (coder.new ≡ coder.old) }
+            × (detector.new ≡ detector.old) × (scales.new ≡ scales.old)
+            × (coder.new ≡ coder.old))) }
+        ensures unused { Unused call (detector.new ≡ detector.old)
+            ((coder.new ≡ coder.old) × (scales.new ≡ scales.old)) }
+        ensures tables { self.new.rate.tables ≡ self.old.rate.tables }
         ensures kept { OnOk result (IsKept enc.now self.new) }
-        ensures stays { (number : ℕ) → result ≡ Err (Coder number) → self.new ≡ self.old }
+        ensures stays { (number : ℕ) → result ≡ Err (Coder number)
+            → moment_of self.new ≡ moment_of self.old }
         ensures failed { IfErr result (λ fault.
-            Fails enc.now call (moment_of self.old)
-            (heard (C.told coder.old) (D.told detector.old))
-            (heard (C.told coder.new) (D.told detector.new)) fault) }
+            Fails enc.now self.old.rate.tables call (moment_of self.old)
+            (heard (C.told coder.old) (D.told detector.old) (S.told scales.old))
+            (heard (C.told coder.new) (D.told detector.new) (S.told scales.new)) fault) }
         ensures again { call ≡ Flush
             → self.old.flushed ≡ true
             → IfOk result (λ turn. turn.reply ≡ Flushed) × IsOk result
             × (self.new ≡ self.old) × (detector.new ≡ detector.old) }
-        ensures later { IsLater (heard (C.told coder.old) (D.told detector.old))
-            (heard (C.told coder.new) (D.told detector.new)) }
+        ensures later { IsLater (heard (C.told coder.old) (D.told detector.old) (S.told scales.old))
+            (heard (C.told coder.new) (D.told detector.new) (S.told scales.new)) }
     {
         let reply = match call {
             Call::Send(frame, parameters) => self.send(alloc, enc, detector, frame, parameters)?,
             Call::Flush => self.flush(alloc, enc, detector)?,
-            Call::Receive => return self.receive(alloc, enc, coder),
+            Call::Receive => return self.receive(alloc, enc, scales, coder),
         };
-        Ok(Turn {
+        Ok(self.without_log(alloc, reply))
+    }
+
+    /// A turn with nothing coded.
+    pub(crate) fn without_log(&self, alloc: Global, reply: Reply<T, O>) -> Turn<T, O>
+        ensures reply { result.reply ≡ reply }
+        ensures log { result.log ≡ [] }
+        ensures reservoir { (enc : Settings) (tables : Tables) (log : List Entry) →
+            Keeps enc tables log self.now.rate → result.reservoir ≡ reservoir_after enc log }
+    {
+        Turn {
             reply,
             log: LogList::new(alloc),
-        })
+            reservoir: self.rate.reservoir(),
+        }
     }
 
     // Accepts a frame, and decides the position that has enough frames behind it now.
@@ -131,6 +164,7 @@ impl<T: Drop, O: Drop> SessionState<T, O> {
             (accepted_of frame.value parameters) reply) }
         ensures decides { OnOk result (Decides enc.now (moment_of self.old) (moment_of self.new)) }
         ensures kept { OnOk result (IsKept enc.now self.new) }
+        ensures rate { self.new.rate ≡ self.old.rate }
         ensures asked { OnOk result (IsAskedIn enc.now (moment_of self.old)
             (moment_of self.new) (D.told detector.old).questions
             (D.told detector.new).questions (D.told detector.old).answers) }
@@ -186,6 +220,7 @@ impl<T: Drop, O: Drop> SessionState<T, O> {
             ≡ after_flush enc.now self.new.decisions.items (moment_of self.old)) }
         ensures decides { OnOk result (Decides enc.now (moment_of self.old) (moment_of self.new)) }
         ensures kept { OnOk result (IsKept enc.now self.new) }
+        ensures rate { self.new.rate ≡ self.old.rate }
         ensures asked { OnOk result (IsAskedIn enc.now (moment_of self.old)
             (moment_of self.new) (D.told detector.old).questions
             (D.told detector.new).questions (D.told detector.old).answers) }

@@ -135,6 +135,15 @@ impl Detector<u16> for NotingDetector {
     }
 }
 
+// The quantisers 8, 16, 24 and on; they aren't refused.
+fn tables() -> Option<QTables> {
+    let mut values = [0; 256];
+    for i in 0..256u16 {
+        values[i as usize] = 8 * (i + 1);
+    }
+    QTables::new(values, values).ok()
+}
+
 // Tables that define no level.
 fn no_levels() -> LevelTables {
     let row = LevelRow {
@@ -172,8 +181,29 @@ fn run_with<D: Detector<u16>>(
     coder: &mut SizedCoder,
     calls: Vec<Call<u16, u64>>,
 ) -> Result<Transcript<u16, u64>, SessionError> {
+    run_scaled(alloc, enc, detector, &mut NoScale, coder, calls)
+}
+
+fn run_scaled<D: Detector<u16>, S: MeanScale<u16>>(
+    alloc: Global,
+    enc: EncoderConfig,
+    detector: &mut D,
+    scales: &mut S,
+    coder: &mut SizedCoder,
+    calls: Vec<Call<u16, u64>>,
+) -> Result<Transcript<u16, u64>, SessionError> {
     let cfg = Config::new().with_encoder_config(enc);
-    run_session(alloc, &cfg, &no_levels(), detector, coder, calls)
+    let tables = tables().ok_or(SessionError::OutOfMemory)?;
+    run_session(
+        alloc,
+        &cfg,
+        &no_levels(),
+        &tables,
+        detector,
+        scales,
+        coder,
+        calls,
+    )
 }
 
 // In each round so many sends and then so many receives; then a flush, and receives.
@@ -451,6 +481,76 @@ fn packets_say_what_they_are(rt: HostRuntime) -> Result<(), Fail> {
     Ok(())
 }
 
+/// Gives a scale that is far too large, and notes the numbers of the frames.
+#[derive(Drop)]
+struct LargeScales {
+    numbers: Vec<u64>,
+}
+
+impl MeanScale<u16> for LargeScales {
+    ghost told = { λ _. record { frames = None; answers = None } };
+
+    fn log_isqrt_mean_scale(
+        &mut self,
+        _alloc: Global,
+        number: u64,
+        _frame: &Arc<Frame<u16>>,
+    ) -> Result<i64, OutOfMemory> {
+        self.numbers.push(number)?;
+        Ok(i64::MAX)
+    }
+}
+
+#[test]
+fn a_bitrate_is_followed(rt: HostRuntime) -> Result<(), Fail> {
+    let alloc = rt.alloc();
+    let mut enc = settings(240, 1);
+    enc.bitrate = 30000;
+    let mut coder = SizedCoder::new(99);
+    let mut scales = LargeScales {
+        numbers: Vec::new(alloc),
+    };
+    let calls = calls_of(alloc, 0, &[(1, 0)], 1)?;
+    let transcript = run_scaled(alloc, enc, &mut NoDetector, &mut scales, &mut coder, calls)?;
+    let mut entries = Vec::new(alloc);
+    let mut reservoirs = Vec::new(alloc);
+    for turn in transcript.turns.as_slice() {
+        for entry in turn.log.as_slice() {
+            entries.push((entry.trial, entry.mean_scale))?;
+        }
+        reservoirs.push(turn.reservoir)?;
+    }
+    let most = 1 << 61;
+    assert_eq!(rt;
+        entries.as_slice(),
+        [(true, most), (false, most)].as_slice()
+    );
+    assert_eq!(rt;
+        reservoirs.as_slice(),
+        [Some(118080), Some(118080), Some(118264)].as_slice()
+    );
+    assert_eq!(rt; coder.calls, 2);
+    assert_eq!(rt; scales.numbers.as_slice(), [0].as_slice());
+    Ok(())
+}
+
+#[test]
+fn quantisers_without_a_bitrate(rt: HostRuntime) -> Result<(), Fail> {
+    let alloc = rt.alloc();
+    let mut coder = SizedCoder::new(99);
+    let calls = calls_of(alloc, 0, &[(5, 0)], 7)?;
+    let transcript = run(alloc, settings(240, 1), &mut coder, calls)?;
+    let mut indices = Vec::new(alloc);
+    for turn in transcript.turns.as_slice() {
+        assert!(rt; turn.reservoir.is_none());
+        if let Reply::Packet(packet) = &turn.reply {
+            indices.push(packet.qp)?;
+        }
+    }
+    assert_eq!(rt; indices.as_slice(), [76, 196, 148, 196, 111].as_slice());
+    Ok(())
+}
+
 #[test]
 fn each_refusal_has_its_answer(rt: HostRuntime) -> Result<(), Fail> {
     let alloc = rt.alloc();
@@ -464,10 +564,10 @@ fn each_refusal_has_its_answer(rt: HostRuntime) -> Result<(), Fail> {
         ),
         (
             64,
+            30000,
             1,
-            99,
-            SessionError::Unbuilt,
-            "sessions with a bitrate aren't built yet",
+            SessionError::CoderFault { command: 0 },
+            "the coder failed at command 0",
         ),
         (
             64,
@@ -488,7 +588,7 @@ fn each_refusal_has_its_answer(rt: HostRuntime) -> Result<(), Fail> {
             }
             Ok(_) => assert!(rt; false, "it was answered"),
         }
-        assert_eq!(rt; coder.faults(), (fails == 3) as u64);
+        assert_eq!(rt; coder.faults(), (fails != 99) as u64);
     }
     let memory = SessionError::OutOfMemory.to_string(alloc)?;
     assert_eq!(rt; memory.as_str(), "out of memory");

@@ -1,21 +1,7 @@
 use crate::Packet;
 use av1_settings::EncoderStatus;
-use coding_base::{Bytes, Sequence};
-use pyramid::Command;
-
-/// One call of the coder.
-#[derive(Drop)]
-pub struct LogEntry {
-    /// What was coded.
-    pub command: Command,
-    /// Whether it was only tried.
-    pub trial: bool,
-    /// The coder's bytes.
-    pub bytes: Bytes,
-}
-
-/// Calls of the coder, in order.
-pub type LogList = Sequence<LogEntry>;
+use coding_base::Sequence;
+use session_log::LogList;
 
 /// What a session answered to a call.
 #[derive(Drop)]
@@ -37,6 +23,8 @@ pub struct Turn<T, O> {
     pub reply: Reply<T, O>,
     /// The calls of the coder.
     pub log: LogList,
+    /// The bits that the reservoir holds then; none where there is no bitrate.
+    pub reservoir: Option<i128>,
 }
 
 /// Turns, one for each call.

@@ -10,6 +10,15 @@ use coding_base::OutOfMemory;
 use std::alloc::Global;
 use std::sync::Arc;
 
+/// How a frame was coded.
+#[derive(Clone, Copy, Debug)]
+pub(crate) struct Coding {
+    /// Its type.
+    pub(crate) kind: FrameType,
+    /// Its AC index of the luma plane.
+    pub(crate) qp: u8,
+}
+
 /// An accepted frame, until its packet is given.
 #[derive(Drop)]
 pub(crate) struct WaitingFrame<T, O> {
@@ -19,8 +28,8 @@ pub(crate) struct WaitingFrame<T, O> {
     pub(crate) opaque: Option<O>,
     /// The metadata sent with it.
     pub(crate) t35: Arc<T35List>,
-    /// Its type, once it is coded.
-    pub(crate) kind: Option<FrameType>,
+    /// How it was coded, once it is.
+    pub(crate) coding: Option<Coding>,
 }
 
 impl<T: Drop, O: Drop> WaitingFrame<T, O> {
@@ -43,7 +52,7 @@ impl<T: Drop, O: Drop> WaitingFrame<T, O> {
             forced: matches!(parameters.frame_type_override, FrameTypeOverride::Key),
             opaque: parameters.opaque,
             t35: Arc::new(alloc, parameters.t35_metadata)?,
-            kind: None,
+            coding: None,
         })
     }
 }

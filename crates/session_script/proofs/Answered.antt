@@ -1,5 +1,5 @@
 -- What a run comes to, by its cases.
-use Rattle.std.proofs.Common.{◌≡◌, ◌≢◌, ℕ, ◌+◌, ◌<◌, ◌≤◌, ◌↔◌, inl, inr, true, ltb, IfSome, List, [], ◌∷◌, length, min, Option, None, Some, is_some, Result, Ok, Err, refl, sym, subst, ◌∙◌, arith}
+use Rattle.std.proofs.Common.{◌≡◌, ◌≢◌, ℕ, ◌+◌, ◌<◌, ◌≤◌, ◌↔◌, ◌⊎◌, inl, inr, true, ltb, IfSome, List, [], ◌∷◌, length, min, Option, None, Some, is_some, Result, Ok, Err, refl, sym, subst, ◌∙◌, arith}
 use Rattle.std.specs.Prelude.{String}
 use Rattle.std.specs.declared.alloc.Global.{Global}
 use Rattle.std.specs.Option.{option_map}
@@ -16,13 +16,15 @@ use Rattle.script_lines.specs.Grammar.{IsRateControl, script_of}
 use Rattle.pass_stats.proofs.SummaryFacts.{first_met-Summary}
 use Rattle.session_core.specs.declared.transcript.Transcript.{Transcript}
 use Rattle.session_core.specs.Told.{FailsBehind, Heard}
-use Rattle.session_text.specs.declared.report.ReportOptions.{ReportOptions}
+use Rattle.session_script.specs.declared.outcome.Layout.{Layout}
 use Rattle.session_script.specs.declared.outcome.Outcome.{Outcome}
 use Rattle.session_script.specs.declared.outcome.Outcome.TheVariants.{WrongWords, Unreadable, TooLong, BadLine, RefusedPassData, Refused, CoderFault, Done, Unwritten, OutOfMemory}
 use Rattle.session_script.specs.declared.run.TheConstants.{MOST_BYTES}
 use Rattle.session_script.specs.Carried.{HasRefusedSummary, IsCarriedOut, IsRefused, IsStopped, IsValidScript, NamesFault, script_refusal, status_for_script}
-use Rattle.session_script.specs.Outcomes.{HasFault, IsOutcome, IsRun, IsScriptOutcome, IsSourceOutcome, IsStatus, IsTold, IsWritten, Span, cut_short, status_for, status_of}
-use Rattle.session_script.specs.Words.{AskForRun}
+use Rattle.session_script.specs.Outcomes.{HasFault, IsRun, IsScriptOutcome, IsSourceOutcome, IsStatus, IsTaskOutcome, IsTold, IsToldOutcome, IsWritten, Span, cut_short, status_for, status_of}
+use Rattle.session_script.specs.declared.words.Task.{Task}
+use Rattle.session_script.specs.declared.words.Task.TheVariants.{Run, Generate}
+use Rattle.session_script.specs.Words.{task_of}
 
 -- ---- a source that was read
 
@@ -35,7 +37,7 @@ pub read_outcome : (source : Span) (heard : Heard ℕ) (bytes : List ℕ) (outco
     ReadsAll MOST_BYTES source.known source.known_after (λ all. all ≡ bytes) →
     IsScriptOutcome heard (script_of bytes) outcome → IsSourceOutcome source heard outcome
 read_outcome source heard bytes WrongWords read h = h
-read_outcome source heard bytes (Unwritten t options) read h = h
+read_outcome source heard bytes (Unwritten t layout) read h = h
 read_outcome source heard bytes Unreadable read h = absurd h
 read_outcome source heard bytes TooLong read h = absurd h
 read_outcome source heard bytes OutOfMemory read h = tt
@@ -45,22 +47,39 @@ read_outcome source heard bytes outcome read h =
 
 -- ---- causes
 
-cause_same : (words : List (String Global)) (source : Span) (heard : Heard ℕ) (outcome : Outcome) →
-    IsSourceOutcome source heard outcome → IsOutcome words source heard outcome
-cause_same words source heard WrongWords h = absurd h
-cause_same words source heard (Unwritten t options) h = absurd h
-cause_same words source heard outcome h = h
+cause_same : (source : Span) (heard : Heard ℕ) (task : Task) (outcome : Outcome) →
+    IsTaskOutcome source heard task outcome → IsToldOutcome source heard task outcome
+cause_same source heard Run (Unwritten t layout) h = absurd h
+cause_same source heard (Generate seed) (Unwritten t layout) h = absurd h.0
+cause_same source heard task outcome h = h
 
-cause_cut : (words : List (String Global)) (source : Span) (heard : Heard ℕ) (outcome : Outcome) →
-    IsSourceOutcome source heard outcome → IsOutcome words source heard (cut_short outcome)
-cause_cut words source heard WrongWords h = absurd h
-cause_cut words source heard (Unwritten t options) h = absurd h
-cause_cut words source heard outcome h = h
+cause_cut : (source : Span) (heard : Heard ℕ) (task : Task) (outcome : Outcome) →
+    IsTaskOutcome source heard task outcome → IsToldOutcome source heard task (cut_short outcome)
+cause_cut source heard Run (Unwritten t layout) h = absurd h
+cause_cut source heard (Generate seed) (Unwritten t layout) h = absurd h.0
+cause_cut source heard task outcome h = h
 
-runs_by : (words : List (String Global)) (source : Span) (heard : Heard ℕ) (outcome : Outcome) → AskForRun words →
-    IsOutcome words source heard outcome → (status_of outcome ≡ 2) ↔ ¬ AskForRun words
-runs_by words source heard WrongWords run h = absurd (h run)
-runs_by words source heard outcome run h = (λ e. absurd (omega arith), λ no. absurd (no run))
+cause_none : (source : Span) (heard : Heard ℕ) (task : Task) (outcome : Outcome) →
+    IsTaskOutcome source heard task outcome → IsTaskOutcome source heard task OutOfMemory
+cause_none source heard Run outcome h = tt
+cause_none source heard (Generate seed) outcome h = (tt, h.1)
+
+never_wrong : (source : Span) (heard : Heard ℕ) (task : Task) → IsToldOutcome source heard task WrongWords → ⊥
+never_wrong source heard Run h = h
+never_wrong source heard (Generate seed) h = h.0
+
+runs_by : (words : List (String Global)) (source : Span) (heard : Heard ℕ) (task : Task) (outcome : Outcome) → task_of words ≡ Some task →
+    IsToldOutcome source heard task outcome → (status_of outcome ≡ 2) ↔ (task_of words ≡ None)
+runs_by words source heard task WrongWords is h = absurd (never_wrong source heard task h)
+runs_by words source heard task outcome is h = (λ e. absurd (omega arith), λ no. cc)
+
+generates_by : (source sink : Span) (heard : Heard ℕ) (seed : ℕ) (outcome : Outcome) →
+    IsToldOutcome source heard (Generate seed) outcome → IsWritten sink outcome →
+    (status_of outcome ≡ 0) ⊎ (status_of outcome ≡ 9) ⊎ ((status_of outcome ≡ 6) × HasFault sink)
+generates_by source sink heard seed (Done t layout) h writes = inl refl
+generates_by source sink heard seed OutOfMemory h writes = inr (inl refl)
+generates_by source sink heard seed (Unwritten t layout) h writes = inr (inr (refl, writes.unwritten refl))
+generates_by source sink heard seed outcome h writes = absurd h.0
 
 -- ---- the status for a source's bytes
 
@@ -93,13 +112,13 @@ refused_status (Err line) number e = absurd e
 valid_status : (script : Script) → IsValidScript script → status_for_script (Ok script) ≡ 0
 valid_status script valid = rw (valid.one_pass, valid.valid)
 
-done_status : (heard : Heard ℕ) (script : Result Script ℕ) (t : Transcript ℕ ℕ) (options : ReportOptions) → IsCarriedOut heard t options script →
+done_status : (heard : Heard ℕ) (script : Result Script ℕ) (t : Transcript ℕ ℕ) (layout : Layout) → IsCarriedOut heard t layout script →
     status_for_script script ≡ 0
-done_status heard (Ok script) t options e = valid_status script e.0.valid
-done_status heard (Err line) t options e = absurd e
+done_status heard (Ok script) t layout e = valid_status script e.0.valid
+done_status heard (Err line) t layout e = absurd e
 
 -- a script whose least fault number was reached has fault numbers
-some_faults : (faults : List ℕ) (count : ℕ) → FailsBehind (Some (reduce min faults)) count → faults ≢ []
+pub some_faults : (faults : List ℕ) (count : ℕ) → FailsBehind (Some (reduce min faults)) count → faults ≢ []
 some_faults [] count reached = absurd reached
 some_faults (fault ∷ faults) count reached = λ e. cc
 
@@ -137,17 +156,17 @@ module _ (sink : Span) where
   four None after number h = tt
   four (Some bytes) after number h = inl (sym (within bytes h.1 ∙ refused_status (script_of bytes) number h.2))
 
-  module _ (heard : Heard ℕ) (t : Transcript ℕ ℕ) (options : ReportOptions) where
-    zero_status : (left after : Option (List ℕ)) → ReadsAll MOST_BYTES left after (λ bytes. IsCarriedOut heard t options (script_of bytes)) →
+  module _ (heard : Heard ℕ) (t : Transcript ℕ ℕ) (layout : Layout) where
+    zero_status : (left after : Option (List ℕ)) → ReadsAll MOST_BYTES left after (λ bytes. IsCarriedOut heard t layout (script_of bytes)) →
         Exact left 0
     zero_status None after h = tt
-    zero_status (Some bytes) after h = inl (sym (within bytes h.1 ∙ done_status heard (script_of bytes) t options h.2))
+    zero_status (Some bytes) after h = inl (sym (within bytes h.1 ∙ done_status heard (script_of bytes) t layout h.2))
 
-    six : (left after : Option (List ℕ)) → ReadsAll MOST_BYTES left after (λ bytes. IsCarriedOut heard t options (script_of bytes)) →
+    six : (left after : Option (List ℕ)) → ReadsAll MOST_BYTES left after (λ bytes. IsCarriedOut heard t layout (script_of bytes)) →
         HasFault sink → Exact left 6
     six None after h failed = tt
     six (Some bytes) after h failed =
-        inr (inr (inl (within bytes h.1 ∙ done_status heard (script_of bytes) t options h.2, refl, failed)))
+        inr (inr (inl (within bytes h.1 ∙ done_status heard (script_of bytes) t layout h.2, refl, failed)))
 
   eight : (heard : Heard ℕ) (command : ℕ) (left after : Option (List ℕ)) →
       ReadsAll MOST_BYTES left after (λ bytes. IsStopped heard command (script_of bytes)) → Exact left 8
@@ -156,42 +175,56 @@ module _ (sink : Span) where
       let stopped = stopped_status heard (script_of bytes) command h.2 in
       inr (inr (inr (within bytes h.1 ∙ stopped.0, refl, stopped.1)))
 
-  exact_by : (words : List (String Global)) (source : Span) (heard : Heard ℕ) (outcome : Outcome) → AskForRun words →
-      IsOutcome words source heard outcome → IsWritten sink outcome → ¬ HasFault source →
+  exact_by : (source : Span) (heard : Heard ℕ) (outcome : Outcome) →
+      IsToldOutcome source heard Run outcome → IsWritten sink outcome → ¬ HasFault source →
       Exact source.known (status_of outcome)
-  exact_by words source heard WrongWords run h writes none = absurd (h run)
-  exact_by words source heard Unreadable run h writes none = absurd (none h)
-  exact_by words source heard TooLong run h writes none = seven source.known source.known_after h
-  exact_by words source heard (BadLine line) run h writes none = three source.known source.known_after line h
-  exact_by words source heard (RefusedPassData number) run h writes none = ten source.known source.known_after number h
-  exact_by words source heard (Refused number) run h writes none = four source.known source.known_after number h
-  exact_by words source heard (CoderFault command) run h writes none = eight heard command source.known source.known_after h
-  exact_by words source heard (Done t options) run h writes none = zero_status heard t options source.known source.known_after h
-  exact_by words source heard (Unwritten t options) run h writes none =
-      six heard t options source.known source.known_after h (writes.unwritten refl)
-  exact_by words source heard OutOfMemory run h writes none = nine source.known
+  exact_by source heard WrongWords h writes none = absurd h
+  exact_by source heard Unreadable h writes none = absurd (none h)
+  exact_by source heard TooLong h writes none = seven source.known source.known_after h
+  exact_by source heard (BadLine line) h writes none = three source.known source.known_after line h
+  exact_by source heard (RefusedPassData number) h writes none = ten source.known source.known_after number h
+  exact_by source heard (Refused number) h writes none = four source.known source.known_after number h
+  exact_by source heard (CoderFault command) h writes none = eight heard command source.known source.known_after h
+  exact_by source heard (Done t layout) h writes none = zero_status heard t layout source.known source.known_after h
+  exact_by source heard (Unwritten t layout) h writes none =
+      six heard t layout source.known source.known_after h (writes.unwritten refl)
+  exact_by source heard OutOfMemory h writes none = nine source.known
 
 -- ---- the run
 
-module _ (words : List (String Global)) (source sink : Span) (heard : Heard ℕ) (run : AskForRun words)
-    (reads : TakesAtMost (MOST_BYTES + 1) source.known source.known_after) (later : source.faults ≤ source.faults_after) where
-  run_by : (outcome : Outcome) → IsOutcome words source heard outcome → IsWritten sink outcome →
-      IsRun words source sink heard outcome
-  run_by outcome cause writes = record {
-    runs = runs_by words source heard outcome run cause;
-    cause = cause;
-    exact = λ asked none. exact_by sink words source heard outcome asked cause writes none;
-    reads = reads;
-    reads_later = later;
-    writes = writes;
-  }
+module _ (words : List (String Global)) (source sink : Span) (heard : Heard ℕ) where
+  exact_for : (task : Task) (outcome : Outcome) → task_of words ≡ Some task → IsToldOutcome source heard task outcome →
+      IsWritten sink outcome → task_of words ≡ Some Run → ¬ HasFault source →
+      IfSome source.known (λ bytes. IsStatus sink bytes (status_of outcome))
+  exact_for Run outcome is h writes asked none = exact_by sink source heard outcome h writes none
+  exact_for (Generate seed) outcome is h writes asked none = let other : Some (Generate seed) ≡ Some Run = sym is ∙ asked in cc
 
-  pub told_run : (before after : Outcome) → IsSourceOutcome source heard before → IsTold before after →
-      IsWritten sink after → IsRun words source sink heard after
-  told_run before after h (inl e) writes =
-      subst (IsRun words source sink heard) (sym e) (run_by before (cause_same words source heard before h) (subst (IsWritten sink) e writes))
-  told_run before after h (inr (inl e)) writes =
-      subst (IsRun words source sink heard) (sym e) (run_by OutOfMemory tt (subst (IsWritten sink) e writes))
-  told_run before after h (inr (inr e)) writes =
-      subst (IsRun words source sink heard) (sym e)
-      (run_by (cut_short before) (cause_cut words source heard before h) (subst (IsWritten sink) e writes))
+  generates_for : (task : Task) (outcome : Outcome) → task_of words ≡ Some task → IsToldOutcome source heard task outcome →
+      IsWritten sink outcome → (seed : ℕ) → task_of words ≡ Some (Generate seed) →
+      (status_of outcome ≡ 0) ⊎ (status_of outcome ≡ 9) ⊎ ((status_of outcome ≡ 6) × HasFault sink)
+  generates_for Run outcome is h writes seed asked = let other : Some Run ≡ Some (Generate seed) = sym is ∙ asked in cc
+  generates_for (Generate own) outcome is h writes seed asked = generates_by source sink heard own outcome h writes
+
+  module _ (task : Task) (is : task_of words ≡ Some task)
+      (reads : TakesAtMost (MOST_BYTES + 1) source.known source.known_after) (later : source.faults ≤ source.faults_after) where
+    run_by : (outcome : Outcome) → IsToldOutcome source heard task outcome → IsWritten sink outcome →
+        IsRun words source sink heard outcome
+    run_by outcome cause writes = record {
+      runs = runs_by words source heard task outcome is cause;
+      cause = rw is cause;
+      exact = exact_for task outcome is cause writes;
+      generates = generates_for task outcome is cause writes;
+      reads = reads;
+      reads_later = later;
+      writes = writes;
+    }
+
+    pub told_run : (before after : Outcome) → IsTaskOutcome source heard task before → IsTold before after →
+        IsWritten sink after → IsRun words source sink heard after
+    told_run before after h (inl e) writes =
+        subst (IsRun words source sink heard) (sym e) (run_by before (cause_same source heard task before h) (subst (IsWritten sink) e writes))
+    told_run before after h (inr (inl e)) writes =
+        subst (IsRun words source sink heard) (sym e) (run_by OutOfMemory (cause_none source heard task before h) (subst (IsWritten sink) e writes))
+    told_run before after h (inr (inr e)) writes =
+        subst (IsRun words source sink heard) (sym e)
+        (run_by (cut_short before) (cause_cut source heard task before h) (subst (IsWritten sink) e writes))

@@ -1,5 +1,5 @@
 pub mod Answered
 pub mod Carrying
 pub mod CommandWords
-pub mod NoBitrate
+pub mod Generating
 pub mod ScriptConfigs

@@ -1,5 +1,5 @@
 -- The outcomes of a run: the status, the text and the report of each, and when it comes.
-use Rattle.std.specs.Prelude.{◌≡◌, ⊤, ℕ, ◌+◌, ◌≤◌, ◌⊎◌, ◌↔◌, Bool, true, false, IsTrue, nat_lt, if◌then◌else◌, List, [], ◌∷◌, ◌++◌, length, Option, None, Some, IfSome, Result, Err, codes, decimal, String}
+use Rattle.std.specs.Prelude.{◌≡◌, ⊤, ℕ, ◌+◌, ◌≤◌, ◌⊎◌, ◌↔◌, Bool, true, false, IsTrue, nat_lt, if◌then◌else◌, List, [], ◌∷◌, ◌++◌, length, Option, None, Some, IfSome, MatchOption, Result, Err, codes, decimal, String}
 use Rattle.std.specs.declared.alloc.Global.{Global}
 use Rattle.std.specs.Io.KnownBytes.{Appends, Keeps}
 use Rattle.coding_base.specs.Faults.{Rose}
@@ -8,23 +8,29 @@ use Rattle.script_lines.specs.declared.script.Script.{Script}
 use Rattle.script_lines.specs.Grammar.{script_of}
 use Rattle.session_core.specs.declared.transcript.Transcript.{Transcript}
 use Rattle.session_core.specs.Told.{Heard}
+use Rattle.session_core.specs.declared.transcript.Turn.{Turn}
 use Rattle.session_text.specs.ReportLines.{report}
+use Rattle.session_text.specs.SummaryLines.{summary}
+use Rattle.session_script.specs.declared.outcome.Layout.{Layout}
+use Rattle.session_script.specs.declared.outcome.Layout.TheVariants.{Summary, Turns}
 use Rattle.session_script.specs.declared.outcome.Outcome.{Outcome}
 use Rattle.session_script.specs.declared.outcome.Outcome.TheVariants.{WrongWords, Unreadable, TooLong, BadLine, RefusedPassData, Refused, CoderFault, Done, Unwritten, OutOfMemory}
 use Rattle.session_script.specs.declared.outcome.Report.{Report}
 use Rattle.session_script.specs.declared.run.TheConstants.{MOST_BYTES}
-use Rattle.session_script.specs.Carried.{HasRefusedSummary, IsCarriedOut, IsRefused, IsStopped, NamesFault, status_for_script}
-use Rattle.session_script.specs.Words.{AskForRun}
+use Rattle.session_script.specs.declared.words.Task.{Task}
+use Rattle.session_script.specs.declared.words.Task.TheVariants.{Run, Generate}
+use Rattle.session_script.specs.Carried.{HasRefusedSummary, IsCarriedOut, IsGenerated, IsRefused, IsStopped, NamesFault, status_for_script}
+use Rattle.session_script.specs.Words.{task_of}
 
 -- ---- what an outcome answers
 
 abbrev pub status_of : Outcome → ℕ
-status_of (Done transcript options) = 0
+status_of (Done transcript layout) = 0
 status_of WrongWords = 2
 status_of (BadLine line) = 3
 status_of (Refused number) = 4
 status_of Unreadable = 5
-status_of (Unwritten transcript options) = 6
+status_of (Unwritten transcript layout) = 6
 status_of TooLong = 7
 status_of (CoderFault command) = 8
 status_of OutOfMemory = 9
@@ -43,8 +49,8 @@ command_of (CoderFault command) = Some command
 command_of outcome = None
 
 abbrev pub transcript_of : Outcome → Option (Transcript ℕ ℕ)
-transcript_of (Done transcript options) = Some transcript
-transcript_of (Unwritten transcript options) = Some transcript
+transcript_of (Done transcript layout) = Some transcript
+transcript_of (Unwritten transcript layout) = Some transcript
 transcript_of outcome = None
 
 abbrev pub report_of : Outcome → Report
@@ -56,10 +62,15 @@ report_of outcome = record {
   transcript = transcript_of outcome;
 }
 
+-- the turns of a session as text: each with its lines, or all summed up
+abbrev pub text_in : Layout → List (Turn ℕ ℕ) → List ℕ
+text_in (Turns options) turns = report options turns
+text_in Summary turns = summary turns
+
 -- the text of an outcome; of some there is none
 abbrev pub text_of : Outcome → List ℕ
-text_of (Done transcript options) = report options transcript.turns
-text_of (Unwritten transcript options) = report options transcript.turns
+text_of (Done transcript layout) = text_in layout transcript.turns
+text_of (Unwritten transcript layout) = text_in layout transcript.turns
 text_of (BadLine line) = codes "script line " ++ (decimal line ++ 10 ∷ [])
 text_of (RefusedPassData number) = codes "pass data " ++ (decimal number ++ 10 ∷ [])
 text_of (Refused number) = codes "invalid config " ++ (decimal number ++ 10 ∷ [])
@@ -68,8 +79,13 @@ text_of outcome = []
 
 -- the outcome where the sink failed while the text was written
 abbrev pub cut_short : Outcome → Outcome
-cut_short (Done transcript options) = Unwritten transcript options
+cut_short (Done transcript layout) = Unwritten transcript layout
 cut_short outcome = outcome
+
+-- the outcome where a session's turns are summed up
+abbrev pub summed_up : Outcome → Outcome
+summed_up (Done transcript layout) = Done transcript Summary
+summed_up outcome = outcome
 
 abbrev pub is_silent : Outcome → Bool
 is_silent WrongWords = true
@@ -98,6 +114,10 @@ span told faults_of before after = record {
 abbrev pub HasFault : Span → Type 0
 HasFault stream = Rose stream.faults stream.faults_after
 
+-- a source was left alone
+abbrev pub IsUnread : Span → Type 0
+IsUnread source = (source.known_after ≡ source.known) × (source.faults_after ≡ source.faults)
+
 -- the source was read to its end, and what its bytes are as a script meets this
 abbrev pub ReadsScript : Span → (Result Script ℕ → Type 0) → Type 0
 ReadsScript source P =
@@ -109,7 +129,7 @@ IsScriptOutcome heard script (BadLine line) = script ≡ Err line
 IsScriptOutcome heard script (RefusedPassData number) = HasRefusedSummary number script
 IsScriptOutcome heard script (Refused number) = IsRefused number script
 IsScriptOutcome heard script (CoderFault command) = IsStopped heard command script
-IsScriptOutcome heard script (Done transcript options) = IsCarriedOut heard transcript options script
+IsScriptOutcome heard script (Done transcript layout) = IsCarriedOut heard transcript layout script
 IsScriptOutcome heard script OutOfMemory = ⊤
 IsScriptOutcome heard script outcome = ⊥
 
@@ -119,15 +139,30 @@ IsSourceOutcome source heard Unreadable = HasFault source
 IsSourceOutcome source heard TooLong = IsTooLong MOST_BYTES source.known source.known_after
 IsSourceOutcome source heard OutOfMemory = ⊤
 IsSourceOutcome source heard WrongWords = ⊥
-IsSourceOutcome source heard (Unwritten transcript options) = ⊥
+IsSourceOutcome source heard (Unwritten transcript layout) = ⊥
 IsSourceOutcome source heard outcome =
     ReadsScript source (λ script. IsScriptOutcome heard script outcome)
 
+-- what a seed came to, before a text was written
+abbrev pub IsSeedOutcome : Heard ℕ → ℕ → Outcome → Type 0
+IsSeedOutcome heard seed (Done transcript layout) = IsGenerated heard transcript layout seed
+IsSeedOutcome heard seed OutOfMemory = ⊤
+IsSeedOutcome heard seed outcome = ⊥
+
+-- what a task came to, before a text was written; a seed's reads no source
+abbrev pub IsTaskOutcome : Span → Heard ℕ → Task → Outcome → Type 0
+IsTaskOutcome source heard Run outcome = IsSourceOutcome source heard outcome
+IsTaskOutcome source heard (Generate seed) outcome = IsSeedOutcome heard seed outcome × IsUnread source
+
+-- the same where its text is written: what comes before is as if the sink hadn't failed
+abbrev pub IsToldOutcome : Span → Heard ℕ → Task → Outcome → Type 0
+IsToldOutcome source heard task (Unwritten transcript layout) = IsTaskOutcome source heard task (Done transcript layout)
+IsToldOutcome source heard task outcome = IsTaskOutcome source heard task outcome
+
 -- each outcome comes only so
 abbrev pub IsOutcome : List (String Global) → Span → Heard ℕ → Outcome → Type 0
-IsOutcome words source heard WrongWords = ¬ AskForRun words
-IsOutcome words source heard (Unwritten transcript options) = IsSourceOutcome source heard (Done transcript options)
-IsOutcome words source heard outcome = IsSourceOutcome source heard outcome
+IsOutcome words source heard outcome =
+    MatchOption (task_of words) (outcome ≡ WrongWords) (λ task. IsToldOutcome source heard task outcome)
 
 -- the status for a source's bytes, where neither coder nor sink fails
 abbrev pub status_for : List ℕ → ℕ
@@ -159,23 +194,27 @@ pub record IsWritten (sink : Span) (outcome : Outcome) : Type 0 where
 abbrev pub IsTold : Outcome → Outcome → Type 0
 IsTold outcome told = (told ≡ outcome) ⊎ (told ≡ OutOfMemory) ⊎ (told ≡ cut_short outcome)
 
--- a run of the program over a source and a sink, what its coder and its detector tell afterwards, and what it came to
+-- a run of the program over a source and a sink, what its coder, its detector and its mean scales tell afterwards, and what
+-- it came to
 pub record IsRun
     (words : List (String Global)) (source sink : Span) (heard : Heard ℕ) (outcome : Outcome)
     : Type 0 where
   -- the words alone decide whether there is a run
-  pub runs : (status_of outcome ≡ 2) ↔ ¬ AskForRun words
+  pub runs : (status_of outcome ≡ 2) ↔ (task_of words ≡ None)
   -- each outcome comes only where its cause is
   pub cause : IsOutcome words source heard outcome
   -- where the source doesn't fail, its bytes decide the status
-  pub exact : AskForRun words → ¬ HasFault source →
+  pub exact : task_of words ≡ Some Run → ¬ HasFault source →
       IfSome source.known (λ bytes. IsStatus sink bytes (status_of outcome))
+  -- a seed's script is carried out; or memory ran out, or the sink failed while the text was written
+  pub generates : (seed : ℕ) → task_of words ≡ Some (Generate seed) →
+      (status_of outcome ≡ 0) ⊎ (status_of outcome ≡ 9) ⊎ ((status_of outcome ≡ 6) × HasFault sink)
   -- what is read, and written
   pub reads : TakesAtMost (MOST_BYTES + 1) source.known source.known_after
   pub reads_later : source.faults ≤ source.faults_after
   pub writes : IsWritten sink outcome
 
--- what the program answers: the report of a run with a coder and a detector of its own
+-- what the program answers: the report of a run with a coder, a detector and mean scales of its own
 pub record IsAnswer (words : List (String Global)) (source sink : Span) (answer : Report) : Type 0 where
   pub outcome : Outcome
   pub heard : Heard ℕ

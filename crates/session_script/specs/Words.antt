@@ -1,11 +1,27 @@
 -- The words of the command line.
-use Rattle.std.specs.Prelude.{◌≡◌, ℕ, List, [], ◌∷◌, map, codes, String, string_bytes}
+use Rattle.std.specs.Prelude.{◌≡◌, ℕ, nat_le, if◌then◌else◌, List, [], ◌∷◌, map, codes, bytes_eq, Option, None, Some, option_and_then, String, string_bytes}
 use Rattle.std.specs.declared.alloc.Global.{Global}
+use Rattle.std.specs.Option.{option_map}
+use Rattle.script_lines.specs.DecimalNumbers.{number_up_to}
+use Rattle.session_script.specs.declared.words.Task.{Task}
+use Rattle.session_script.specs.declared.words.Task.TheVariants.{Run, Generate}
+use Rattle.session_script.specs.declared.words.TheConstants.{LEAST_SEED, MOST_SEED}
 
 -- the words are this one word
 abbrev pub AreOne : List ℕ → List (String Global) → Type 0
 AreOne word words = map string_bytes words ≡ word ∷ []
 
--- the words ask for the run of a script
-abbrev pub AskForRun : List (String Global) → Type 0
-AskForRun words = AreOne (codes "run") words
+-- the seed that a text of 1 to 20 digits writes, if it is one: from 1 to 10,000
+abbrev pub seed_of : List ℕ → Option ℕ
+seed_of text =
+    option_and_then (λ n. if nat_le LEAST_SEED n then Some n else None) (number_up_to MOST_SEED text)
+
+-- what the program is to do: `run`, or `gen` and a seed
+abbrev pub task_of_texts : List (List ℕ) → Option Task
+task_of_texts (word ∷ []) = if bytes_eq word (codes "run") then Some Run else None
+task_of_texts (word ∷ number ∷ []) =
+    if bytes_eq word (codes "gen") then option_map Generate (seed_of number) else None
+task_of_texts texts = None
+
+abbrev pub task_of : List (String Global) → Option Task
+task_of words = task_of_texts (map string_bytes words)

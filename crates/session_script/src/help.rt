@@ -4,9 +4,12 @@ pub const HELP: &str =
 prints what each call answered and what was coded, in which order.
 
 Usage: session_script run < SCRIPT
+       session_script gen N
 
 Words:
   run           reads a script from standard input and carries it out
+  gen N         carries out the script that N makes, 1 to 10000, and prints what
+                it came to in six lines; reads nothing
   --help        prints this text
   --version     prints the version
 
@@ -14,8 +17,9 @@ A script has a line for each setting, and then lines for the calls. A line is a
 word and its numbers, with one space between two and none before or behind, and
 ends with a line feed alone; the last line may lack it. A tab or a carriage
 return makes a line wrong. Empty lines, and lines that begin with #, are skipped.
-A number has 1 to 20 decimal digits and no sign, and is at most 2^64 - 1, that of
-preset, level or minq 255, and that of reservoir 2^31 - 1.
+A number has 1 to 20 decimal digits and is at most 2^64 - 1, that of preset, level
+or minq 255, and that of reservoir 2^31 - 1. It has no sign, but that of bitrate,
+-2^31 to 2^31 - 1, and the V of scale, -2^63 to 2^63 - 1, may have a leading -.
 
 Settings, before the first call, in any order, each at most once but those
 marked *:
@@ -43,6 +47,8 @@ marked *:
                       table of levels (none)
   quantizer N         base quantizer index, 0 to 255 (100)
   minq N              least quantizer index, 0 to 255 (0)
+  bitrate N           bits a second to be kept to, with no index above that of
+                      quantizer but for 255; 0 or less: none is kept to (0)
   reservoir N         frames that the bit reservoir evens out, 12 to 131072
                       (follows from keyint)
   summary HEX         a first pass's summary, 2 to 400 digits 0-9a-f, two for a
@@ -50,7 +56,13 @@ marked *:
   cut P *             a scene begins with frame P, which is a key frame (none)
   bytes P N *         frame P has N bytes, 1 to 4096; the last line for P counts
                       (100 for a key frame, 20 for any other)
-  fault K *           the coder fails its call K, from 0, shows counted (none)
+  scale P V *         frame P has the mean scale V, in 2^-57; the last line for P
+                      counts (0)
+  fault K *           the coder fails its call K, from 0, tries and shows counted
+                      (none)
+  print q             prints a coded frame's quantizer index behind its line (off)
+  print reservoir     prints the reservoir's bits behind a receive that coded,
+                      where there is a bitrate (off)
   print bytes         prints each packet's bytes behind its line (off)
 
 Calls, at most 100000 in all, with an N of at least 1:
@@ -93,9 +105,12 @@ pub const HELP_LINES: &[&str] = &[
     "prints what each call answered and what was coded, in which order.",
     "",
     "Usage: session_script run < SCRIPT",
+    "       session_script gen N",
     "",
     "Words:",
     "  run           reads a script from standard input and carries it out",
+    "  gen N         carries out the script that N makes, 1 to 10000, and prints what",
+    "                it came to in six lines; reads nothing",
     "  --help        prints this text",
     "  --version     prints the version",
     "",
@@ -103,8 +118,9 @@ pub const HELP_LINES: &[&str] = &[
     "word and its numbers, with one space between two and none before or behind, and",
     "ends with a line feed alone; the last line may lack it. A tab or a carriage",
     "return makes a line wrong. Empty lines, and lines that begin with #, are skipped.",
-    "A number has 1 to 20 decimal digits and no sign, and is at most 2^64 - 1, that of",
-    "preset, level or minq 255, and that of reservoir 2^31 - 1.",
+    "A number has 1 to 20 decimal digits and is at most 2^64 - 1, that of preset, level",
+    "or minq 255, and that of reservoir 2^31 - 1. It has no sign, but that of bitrate,",
+    "-2^31 to 2^31 - 1, and the V of scale, -2^63 to 2^63 - 1, may have a leading -.",
     "",
     "Settings, before the first call, in any order, each at most once but those",
     "marked *:",
@@ -132,6 +148,8 @@ pub const HELP_LINES: &[&str] = &[
     "                      table of levels (none)",
     "  quantizer N         base quantizer index, 0 to 255 (100)",
     "  minq N              least quantizer index, 0 to 255 (0)",
+    "  bitrate N           bits a second to be kept to, with no index above that of",
+    "                      quantizer but for 255; 0 or less: none is kept to (0)",
     "  reservoir N         frames that the bit reservoir evens out, 12 to 131072",
     "                      (follows from keyint)",
     "  summary HEX         a first pass's summary, 2 to 400 digits 0-9a-f, two for a",
@@ -139,7 +157,13 @@ pub const HELP_LINES: &[&str] = &[
     "  cut P *             a scene begins with frame P, which is a key frame (none)",
     "  bytes P N *         frame P has N bytes, 1 to 4096; the last line for P counts",
     "                      (100 for a key frame, 20 for any other)",
-    "  fault K *           the coder fails its call K, from 0, shows counted (none)",
+    "  scale P V *         frame P has the mean scale V, in 2^-57; the last line for P",
+    "                      counts (0)",
+    "  fault K *           the coder fails its call K, from 0, tries and shows counted",
+    "                      (none)",
+    "  print q             prints a coded frame's quantizer index behind its line (off)",
+    "  print reservoir     prints the reservoir's bits behind a receive that coded,",
+    "                      where there is a bitrate (off)",
     "  print bytes         prints each packet's bytes behind its line (off)",
     "",
     "Calls, at most 100000 in all, with an N of at least 1:",

@@ -1,4 +1,4 @@
-//! Runs a script of session calls, and prints what the session answered and coded.
+//! Carries out a script of session calls, or the one that a seed makes, and prints what came of it.
 #![tactic(auto)]
 
 mod calls;
@@ -12,10 +12,10 @@ mod words;
 
 pub use byte_streams::{Failed, MemSink, MemSource, Sink, Source};
 use byte_streams::{Reading, Writing};
-pub use outcome::{Outcome, Report};
+pub use outcome::{Layout, Outcome, Report};
 use program::run_program;
 pub use run::{run_script, run_with};
-pub use scripted::{ScriptedCoder, ScriptedDetector};
+pub use scripted::{ScriptedCoder, ScriptedDetector, ScriptedScales};
 use std::io;
 use std::process::ExitCode;
 use words::command_words;

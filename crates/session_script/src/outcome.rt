@@ -1,10 +1,19 @@
 ghost use Rattle.std.specs.Prelude.{◌≡◌, IfOk, string_bytes};
-ghost use Rattle.session_script.specs.Outcomes.{status_of, line_of, config_of, command_of, transcript_of, report_of, text_of, is_silent, cut_short};
+ghost use Rattle.session_script.specs.Outcomes.{status_of, line_of, config_of, command_of, transcript_of, report_of, text_in, text_of, is_silent, cut_short, summed_up};
 
 use coding_base::OutOfMemory;
-use session_core::Transcript;
-use session_text::{ReportOptions, report_text};
+use session_core::{Transcript, Turn};
+use session_text::{ReportOptions, report_text, summary_text};
 use std::alloc::Global;
+
+/// How a session's turns are told.
+#[derive(Clone, Copy, Debug, PartialEq, Eq)]
+pub enum Layout {
+    /// Each turn with its lines, and with these options.
+    Turns(ReportOptions),
+    /// All summed up.
+    Summary,
+}
 
 /// What the run of a script came to.
 #[derive(Drop)]
@@ -23,10 +32,10 @@ pub enum Outcome {
     Refused(u8),
     /// The coder failed at the command of this number, from 0.
     CoderFault(u64),
-    /// The calls were carried out, and their report was written with these options.
-    Done(Transcript<u8, u64>, ReportOptions),
-    /// The calls were carried out, and the sink failed while their report was written.
-    Unwritten(Transcript<u8, u64>, ReportOptions),
+    /// The calls were carried out, and what came of them was written in this layout.
+    Done(Transcript<u8, u64>, Layout),
+    /// The calls were carried out, and the sink failed while that was written.
+    Unwritten(Transcript<u8, u64>, Layout),
     /// Memory ran out.
     OutOfMemory,
 }
@@ -111,13 +120,13 @@ impl Outcome {
         )
     }
 
-    /// What is printed: the report of a session, or a line that says why there is none.
+    /// What is printed: what came of a session, or a line that says why there is none.
     pub fn text(&self, alloc: Global) -> Result<String, OutOfMemory>
         ensures { IfOk result (λ text. string_bytes text ≡ text_of self.now) }
     {
         match self {
-            Outcome::Done(transcript, options) | Outcome::Unwritten(transcript, options) => {
-                report_text(alloc, *options, transcript.turns.as_slice())
+            Outcome::Done(transcript, layout) | Outcome::Unwritten(transcript, layout) => {
+                text_in(alloc, *layout, transcript.turns.as_slice())
             }
             Outcome::BadLine(line) => Ok(format!(in alloc; "script line {line}\n")?),
             Outcome::RefusedPassData(number) => Ok(format!(in alloc; "pass data {number}\n")?),
@@ -132,9 +141,29 @@ impl Outcome {
         ensures { result ≡ cut_short self }
     {
         match self {
-            Outcome::Done(transcript, options) => Outcome::Unwritten(transcript, options),
+            Outcome::Done(transcript, layout) => Outcome::Unwritten(transcript, layout),
             outcome => outcome,
         }
+    }
+
+    /// The same, where the session's turns are summed up.
+    pub fn summed_up(self) -> Outcome
+        ensures { result ≡ summed_up self }
+    {
+        match self {
+            Outcome::Done(transcript, _) => Outcome::Done(transcript, Layout::Summary),
+            outcome => outcome,
+        }
+    }
+}
+
+// The turns of a session as text.
+fn text_in(alloc: Global, layout: Layout, turns: &[Turn<u8, u64>]) -> Result<String, OutOfMemory>
+    ensures { IfOk result (λ text. string_bytes text ≡ text_in layout turns.now) }
+{
+    match layout {
+        Layout::Turns(options) => report_text(alloc, options, turns),
+        Layout::Summary => summary_text(alloc, turns),
     }
 }
 

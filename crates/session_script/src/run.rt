@@ -1,19 +1,22 @@
-ghost use Rattle.std.specs.Prelude.{◌≡◌, ◌≢◌, ◌+◌, ◌≤◌, OnOk, Ok};
+ghost use Rattle.std.specs.Prelude.{◌≡◌, ◌≢◌, ◌+◌, ◌≤◌, ℕ, OnOk, Ok, None, Some};
+ghost use Rattle.std.specs.List.{list_any};
 ghost use Rattle.byte_streams.specs.Streams.{TakesAtMost};
 ghost use Rattle.script_lines.specs.Grammar.{script_of};
-ghost use Rattle.session_script.specs.Carried.{heard_first, heard_of, options_of};
+ghost use Rattle.session_script.specs.Carried.{asks_bytes, asks_index, asks_reservoir, heard_first, heard_of, options_of};
 ghost use Rattle.session_script.specs.declared.run.TheConstants.{MOST_BYTES};
-ghost use Rattle.session_script.specs.Outcomes.{IsAnswer, IsRun, IsScriptOutcome, IsSourceOutcome, IsTold, IsWritten, span, status_of};
-ghost use Rattle.session_script.specs.Words.{AskForRun};
+ghost use Rattle.session_script.specs.declared.words.Task.TheVariants.{Generate};
+ghost use Rattle.session_script.specs.Outcomes.{IsAnswer, IsRun, IsScriptOutcome, IsSeedOutcome, IsSourceOutcome, IsTaskOutcome, IsTold, IsWritten, span, status_of};
+ghost use Rattle.session_script.specs.Words.{task_of};
 
 use crate::calls::session_calls;
-use crate::outcome::{Outcome, Report};
-use crate::words::are_one;
+use crate::outcome::{Layout, Outcome, Report};
+use crate::words::{Task, task_of};
 use av1_frame::Pixel;
 use byte_streams::{ReadError, Sink, Source, read_all, write_all};
 use coding_base::OutOfMemory;
+use generated_script::generated_script;
 use script_lines::{Print, Script, ScriptError, parse};
-use scripted::{ScriptedCoder, ScriptedDetector, no_levels};
+use scripted::{ScriptedCoder, ScriptedDetector, ScriptedScales, no_levels, scripted_tables};
 use session_core::{SessionError, run_session};
 use session_text::ReportOptions;
 use std::alloc::Global;
@@ -24,13 +27,14 @@ pub const MOST_BYTES: usize = 1_048_576;
 // The number of the error for pass data that is no summary.
 const CORRUPTED: u8 = 1;
 
-/// Runs the script that the source holds, and puts its report into the sink. The words are those of the command line
-/// after the program's name: `run` alone.
+/// Does what the words of the command line after the program's name ask for: `run` carries out the script that the source
+/// holds, and puts its report into the sink; `gen` and a seed of 1 to 10000 carries out the script that the seed makes, without
+/// reading the source, and puts into the sink what it came to in six lines.
 ///
 /// The statuses, in this order: 2 for other words; 5 for a source that fails; 7 for a source of more than 1,048,576 bytes;
 /// 3 for a line outside the grammar, the first of which is named; 10 for a summary that is refused; 4 for a configuration that
-/// is refused; 8 for a coder that fails, at a call that the script names; 6 for a sink that fails while the report is written;
-/// 0 for a report that is written whole; 9 where memory runs out, at any point.
+/// is refused; 8 for a coder that fails, at a call that the script names; 6 for a sink that fails while the text is written;
+/// 0 for a text that is written whole; 9 where memory runs out, at any point.
 pub fn run_script<R: Source, W: Sink>(
     alloc: Global,
     words: &[String],
@@ -39,16 +43,27 @@ pub fn run_script<R: Source, W: Sink>(
 ) -> Report
     ensures outcome { IsAnswer words.now (span R.left R.faults source.old source.new)
         (span W.held W.faults sink.old sink.new) result }
-    ensures untouched { ¬ AskForRun words.now →
+    ensures untouched { task_of words.now ≡ None →
         (source.new ≡ source.old) × (sink.new ≡ sink.old) }
+    ensures unread { (seed : ℕ) → task_of words.now ≡ Some (Generate seed) →
+        source.new ≡ source.old }
 {
     let mut coder = ScriptedCoder::new(alloc);
     let mut detector = ScriptedDetector::without_cuts(alloc);
-    Report::of(run_with(alloc, words, source, sink, &mut coder, &mut detector))
+    let mut scales = ScriptedScales::without_values(alloc);
+    Report::of(run_with(
+        alloc,
+        words,
+        source,
+        sink,
+        &mut coder,
+        &mut detector,
+        &mut scales,
+    ))
 }
 
-/// The same with this coder and this detector, which say afterwards what they were asked for. A session begins with both
-/// made anew, by the rules of the script.
+/// The same with this coder, this detector and these mean scales, which say afterwards what they were asked for. A session
+/// begins with them made anew, by the rules of the script.
 pub fn run_with<R: Source, W: Sink>(
     alloc: Global,
     words: &[String],
@@ -56,34 +71,60 @@ pub fn run_with<R: Source, W: Sink>(
     sink: &mut W,
     coder: &mut ScriptedCoder,
     detector: &mut ScriptedDetector,
+    scales: &mut ScriptedScales,
 ) -> Outcome
     ensures outcome { IsRun words.now (span R.left R.faults source.old source.new)
-        (span W.held W.faults sink.old sink.new) (heard_of coder.new detector.new) result }
-    ensures untouched { ¬ AskForRun words.now →
+        (span W.held W.faults sink.old sink.new) (heard_of coder.new detector.new scales.new)
+        result }
+    ensures untouched { task_of words.now ≡ None →
         (source.new ≡ source.old) × (sink.new ≡ sink.old)
-        × (coder.new ≡ coder.old) × (detector.new ≡ detector.old) }
+        × (coder.new ≡ coder.old) × (detector.new ≡ detector.old) × (scales.new ≡ scales.old) }
+    ensures unread { (seed : ℕ) → task_of words.now ≡ Some (Generate seed) →
+        source.new ≡ source.old }
 {
-    if !are_one(words, "run") {
+    let Some(task) = task_of(words) else {
         return Outcome::WrongWords;
-    }
-    let outcome = carry_out(alloc, source, coder, detector);
+    };
+    let outcome = carry_out(alloc, task, source, coder, detector, scales);
     tell(alloc, outcome, sink)
 }
 
-// Reads a script and carries it out.
+// Carries out a task.
 fn carry_out<R: Source>(
+    alloc: Global,
+    task: Task,
+    source: &mut R,
+    coder: &mut ScriptedCoder,
+    detector: &mut ScriptedDetector,
+    scales: &mut ScriptedScales,
+) -> Outcome
+    ensures cause { IsTaskOutcome (span R.left R.faults source.old source.new)
+        (heard_of coder.new detector.new scales.new) task result }
+    ensures reads { TakesAtMost (MOST_BYTES + 1) (R.left source.old) (R.left source.new) }
+    ensures later { R.faults source.old ≤ R.faults source.new }
+    ensures unread { (seed : ℕ) → task ≡ Generate seed → source.new ≡ source.old }
+{
+    match task {
+        Task::Run => carry_out_source(alloc, source, coder, detector, scales),
+        Task::Generate(seed) => carry_out_seed(alloc, seed, coder, detector, scales),
+    }
+}
+
+// Reads a script and carries it out.
+fn carry_out_source<R: Source>(
     alloc: Global,
     source: &mut R,
     coder: &mut ScriptedCoder,
     detector: &mut ScriptedDetector,
+    scales: &mut ScriptedScales,
 ) -> Outcome
     ensures cause { IsSourceOutcome (span R.left R.faults source.old source.new)
-        (heard_of coder.new detector.new) result }
+        (heard_of coder.new detector.new scales.new) result }
     ensures reads { TakesAtMost (MOST_BYTES + 1) (R.left source.old) (R.left source.new) }
     ensures later { R.faults source.old ≤ R.faults source.new }
 {
     match read_all(alloc, source, MOST_BYTES) {
-        Ok(bytes) => carry_out_bytes(alloc, &bytes, coder, detector),
+        Ok(bytes) => carry_out_bytes(alloc, &bytes, coder, detector, scales),
         Err(ReadError::Failed) => Outcome::Unreadable,
         Err(ReadError::TooLong) => Outcome::TooLong,
         Err(ReadError::OutOfMemory) => Outcome::OutOfMemory,
@@ -95,14 +136,31 @@ fn carry_out_bytes(
     bytes: &[u8],
     coder: &mut ScriptedCoder,
     detector: &mut ScriptedDetector,
+    scales: &mut ScriptedScales,
 ) -> Outcome
-    ensures outcome { IsScriptOutcome (heard_of coder.new detector.new) (script_of bytes.now)
-        result }
+    ensures outcome { IsScriptOutcome (heard_of coder.new detector.new scales.new)
+        (script_of bytes.now) result }
 {
     match parse(alloc, bytes) {
-        Ok(script) => carry_out_script(alloc, &script, coder, detector),
+        Ok(script) => carry_out_script(alloc, &script, coder, detector, scales),
         Err(ScriptError::BadLine(line)) => Outcome::BadLine(line),
         Err(ScriptError::OutOfMemory) => Outcome::OutOfMemory,
+    }
+}
+
+// Carries out the script that a seed makes.
+fn carry_out_seed(
+    alloc: Global,
+    seed: u64,
+    coder: &mut ScriptedCoder,
+    detector: &mut ScriptedDetector,
+    scales: &mut ScriptedScales,
+) -> Outcome
+    ensures outcome { IsSeedOutcome (heard_of coder.new detector.new scales.new) seed result }
+{
+    match generated_script(alloc, seed) {
+        Ok(script) => carry_out_script(alloc, &script, coder, detector, scales).summed_up(),
+        Err(_) => Outcome::OutOfMemory,
     }
 }
 
@@ -112,8 +170,10 @@ fn carry_out_script(
     script: &Script,
     coder: &mut ScriptedCoder,
     detector: &mut ScriptedDetector,
+    scales: &mut ScriptedScales,
 ) -> Outcome
-    ensures outcome { IsScriptOutcome (heard_of coder.new detector.new) (Ok script.now) result }
+    ensures outcome { IsScriptOutcome (heard_of coder.new detector.new scales.new)
+        (Ok script.now) result }
 {
     let Ok(config) = script.config() else {
         return Outcome::RefusedPassData(CORRUPTED);
@@ -125,31 +185,36 @@ fn carry_out_script(
     let Ok(calls) = session_calls(alloc, &config.enc, script.calls.as_slice()) else {
         return Outcome::OutOfMemory;
     };
-    let Ok(()) = begin(alloc, script, coder, detector) else {
+    let Ok(()) = begin(alloc, script, coder, detector, scales) else {
         return Outcome::OutOfMemory;
     };
-    match run_session(alloc, &config, &levels, detector, coder, calls) {
-        Ok(transcript) => Outcome::Done(transcript, report_options(script)),
+    let tables = scripted_tables();
+    match run_session(
+        alloc, &config, &levels, &tables, detector, scales, coder, calls,
+    ) {
+        Ok(transcript) => Outcome::Done(transcript, Layout::Turns(report_options(script))),
         Err(SessionError::CoderFault { command }) => Outcome::CoderFault(command),
         Err(SessionError::OutOfMemory) => Outcome::OutOfMemory,
-        // The configuration was found valid above, and no line of a script sets a bitrate.
+        // The configuration was found valid above.
         Err(SessionError::Invalid(_)) => unreachable!(),
-        Err(SessionError::Unbuilt) => unreachable!(),
     }
 }
 
-// Makes coder and detector anew, by the rules of a script.
+// Makes coder, detector and mean scales anew, by the rules of a script.
 fn begin(
     alloc: Global,
     script: &Script,
     coder: &mut ScriptedCoder,
     detector: &mut ScriptedDetector,
+    scales: &mut ScriptedScales,
 ) -> Result<(), OutOfMemory>
-    ensures { OnOk result (heard_of coder.new detector.new ≡ heard_first script.now) }
+    ensures { OnOk result
+        (heard_of coder.new detector.new scales.new ≡ heard_first script.now) }
 {
     let byte_counts = script.byte_counts.as_slice();
     *coder = ScriptedCoder::with_rules(alloc, byte_counts, script.faults.as_slice())?;
     *detector = ScriptedDetector::new(alloc, script.cuts.as_slice())?;
+    *scales = ScriptedScales::new(alloc, script.scales.as_slice())?;
     Ok(())
 }
 
@@ -157,13 +222,32 @@ fn begin(
 fn report_options(script: &Script) -> ReportOptions
     ensures { result ≡ options_of script.now }
 {
+    let prints = script.prints.as_slice();
     ReportOptions {
-        bytes: script
-            .prints
-            .as_slice()
-            .iter()
-            .any(|print| matches!(print, Print::Bytes)),
+        bytes: ask_bytes(prints),
+        quantizer_index: ask_index(prints),
+        reservoir: ask_reservoir(prints),
     }
+}
+
+fn ask_bytes(prints: &[Print]) -> bool
+    ensures { result ≡ list_any asks_bytes prints.now }
+{
+    prints.iter().any(|print| matches!(print, Print::Bytes))
+}
+
+fn ask_index(prints: &[Print]) -> bool
+    ensures { result ≡ list_any asks_index prints.now }
+{
+    prints
+        .iter()
+        .any(|print| matches!(print, Print::QuantizerIndex))
+}
+
+fn ask_reservoir(prints: &[Print]) -> bool
+    ensures { result ≡ list_any asks_reservoir prints.now }
+{
+    prints.iter().any(|print| matches!(print, Print::Reservoir))
 }
 
 // Writes the text of an outcome, and says what it comes to then.

@@ -1,6 +1,7 @@
 mod detector_and_faults;
 mod low_latency;
 mod opaque_values;
+mod rate_control;
 mod receives_anywhere;
 mod receives_behind_the_flush;
 mod setting_lines;
@@ -8,13 +9,13 @@ mod setting_lines;
 use crate::help::HELP_LINES;
 use crate::program::run_program;
 use crate::run::{run_script, run_with};
-use crate::{MemSink, MemSource, Report, ScriptedCoder, ScriptedDetector};
+use crate::{MemSink, MemSource, Report, ScriptedCoder, ScriptedDetector, ScriptedScales};
 use av1_frame::{ChromaSampling, Frame};
 use av1_settings::{Config, EncoderConfig};
 use coding_base::{OutOfMemory, Sequence};
 use receives_behind_the_flush::{ROWS, Row};
-use scripted::no_levels;
-use session_core::{Call, NoDetector, Reply, run_session};
+use scripted::{no_levels, scripted_tables};
+use session_core::{Call, NoDetector, NoScale, Reply, run_session};
 use session_text::{ReportOptions, report_text};
 use slot_replay::replay;
 use std::alloc::Global;
@@ -74,13 +75,14 @@ fn status(alloc: Global, texts: &[&str], case: &Case<'_>) -> Result<(u8, MemSink
     Ok((status, sink))
 }
 
-fn rows() -> [&'static [Row]; 5] {
+fn rows() -> [&'static [Row]; 6] {
     [
         &ROWS,
         &receives_anywhere::ROWS,
         &low_latency::ROWS,
         &detector_and_faults::ROWS,
         &setting_lines::ROWS,
+        &rate_control::ROWS,
     ]
 }
 
@@ -113,7 +115,7 @@ fn commands_replay_as_the_packets(rt: HostRuntime) -> Result<(), Fail> {
         let mut commands = Vec::new(alloc);
         let mut packets = Vec::new(alloc);
         for turn in transcript.turns.as_slice() {
-            for entry in turn.log.as_slice() {
+            for entry in turn.log.as_slice().iter().filter(|entry| !entry.trial) {
                 commands.push(entry.command)?;
             }
             if let Reply::Packet(packet) = &turn.reply {
@@ -154,11 +156,17 @@ fn a_fast_preset_names_one_frame_at_low_latency(rt: HostRuntime) -> Result<(), F
         alloc,
         &cfg,
         &no_levels(),
+        &scripted_tables(),
         &mut NoDetector,
+        &mut NoScale,
         &mut coder,
         calls,
     )?;
-    let options = ReportOptions { bytes: false };
+    let options = ReportOptions {
+        bytes: false,
+        quantizer_index: false,
+        reservoir: false,
+    };
     let text = report_text(alloc, options, transcript.turns.as_slice())?;
     let wanted = "sent 0\nsent 1\nsent 2\nflushed\n\
         code 0 key refs - refresh 255 shown\n\
@@ -173,11 +181,14 @@ fn a_fast_preset_names_one_frame_at_low_latency(rt: HostRuntime) -> Result<(), F
 
 // What was lent is made anew by the script's rules, and tells what the session asked.
 #[test]
-fn a_lent_detector_keeps_its_questions(rt: HostRuntime) -> Result<(), Fail> {
+fn what_is_lent_keeps_its_questions(rt: HostRuntime) -> Result<(), Fail> {
     let alloc = rt.alloc();
-    let case = plain(b"size 16 16\ncut 2\nsend\nsendkey\nsend 2\nflush\nreceive\n");
+    let script = b"size 16 16\nbitrate 30000\nscale 0 -8\nscale 3 9\nscale 0 7\ncut 2\n\
+        send\nsendkey\nsend 2\nflush\nreceive 2\n";
+    let case = plain(script);
     let mut coder = ScriptedCoder::with_rules(alloc, &[], &[0])?;
     let mut detector = ScriptedDetector::new(alloc, &[1, 3])?;
+    let mut scales = ScriptedScales::new(alloc, &[(1, 5)])?;
     let mut sink = case.sink(alloc)?;
     let words = words(alloc, &["run"])?;
     let outcome = run_with(
@@ -187,10 +198,12 @@ fn a_lent_detector_keeps_its_questions(rt: HostRuntime) -> Result<(), Fail> {
         &mut sink,
         &mut coder,
         &mut detector,
+        &mut scales,
     );
     assert_eq!(rt; outcome.status(), 0);
     let text = "sent 0\nsent 1\nsent 2\nsent 3\nflushed\n\
-        code 0 key refs - refresh 255 shown\nFrame 0 - Key frame - 102 bytes\n";
+        trial 0\ncode 0 key refs - refresh 255 shown\nFrame 0 - Key frame - 102 bytes\n\
+        code 1 key refs - refresh 255 shown\nFrame 1 - Key frame - 102 bytes\n";
     assert_eq!(rt; sink.bytes(), text.as_bytes());
     let mut asked = Vec::new(alloc);
     for question in detector.questions() {
@@ -198,13 +211,52 @@ fn a_lent_detector_keeps_its_questions(rt: HostRuntime) -> Result<(), Fail> {
     }
     let wanted = [(2, 1, true), (3, 2, false)];
     assert_eq!(rt; asked.as_slice(), wanted.as_slice());
-    assert_eq!(rt; coder.given().len(), 1);
+    let mut measured = Vec::new(alloc);
+    for one in scales.measured() {
+        measured.push((one.number, one.answer))?;
+    }
+    let wanted = [(0, 7), (1, 0)];
+    assert_eq!(rt; measured.as_slice(), wanted.as_slice());
+    assert_eq!(rt; coder.given().len(), 3);
+    Ok(())
+}
+
+// Neither is a source read nor does it matter that it would fail.
+#[test]
+fn a_seed_makes_the_same_script_each_time(rt: HostRuntime) -> Result<(), Fail> {
+    let alloc = rt.alloc();
+    let mut unread = plain(b"x\n");
+    unread.reads = &[0];
+    for _ in 0..2 {
+        let mut sink = unread.sink(alloc)?;
+        let words = words(alloc, &["gen", "7"])?;
+        let report = run_script(alloc, &words, &mut unread.source(alloc)?, &mut sink);
+        assert_eq!(rt; report.status, 0);
+        let text =
+            "frames 2000\nkeys 63\nhidden 937\npackets 2000\nbytes 245244\nreservoir 178560\n";
+        assert_eq!(rt; sink.bytes(), text.as_bytes());
+        let turns = report.transcript.map(|transcript| transcript.turns.len());
+        assert_eq!(rt; turns, Some(5001));
+    }
+    unread.room = 10;
+    let (status, sink) = status(alloc, &["gen", "00000000000000000007"], &unread)?;
+    assert_eq!(rt; status, 6);
+    assert_eq!(rt; sink.bytes(), b"frames 200".as_slice());
     Ok(())
 }
 
 #[test]
 fn other_words_do_nothing(rt: HostRuntime) -> Result<(), Fail> {
-    let cases: [&[&str]; 8] = [
+    let cases: [&[&str]; 17] = [
+        &["gen"],
+        &["gen", ""],
+        &["gen", "0"],
+        &["gen", "10001"],
+        &["gen", "+7"],
+        &["gen", "7 "],
+        &["gen", "000000000000000000007"],
+        &["gen", "7", "7"],
+        &["7", "gen"],
         &[],
         &["walk"],
         &[""],

@@ -1,8 +1,23 @@
 ghost use Rattle.std.specs.Prelude.{◌≡◌, ◌↔◌, IsTrue};
-ghost use Rattle.session_script.specs.Words.{AreOne};
+ghost use Rattle.session_script.specs.Words.{AreOne, seed_of, task_of};
 
+use script_lines::number_up_to;
 use std::rt::Env;
 use std::{env, io};
+
+/// What the program is to do.
+#[derive(Clone, Copy, Debug, PartialEq, Eq)]
+pub enum Task {
+    /// Carry out the script that the source holds.
+    Run,
+    /// Carry out the script that a seed makes.
+    Generate(u64),
+}
+
+// The seeds of generated scripts.
+const LEAST_SEED: u64 = 1;
+
+const MOST_SEED: u64 = 10_000;
 
 /// The words of the command line after the program's name.
 pub fn command_words<R: Env + AllocGlobal>(rt: &R) -> io::Result<Vec<String>> {
@@ -18,4 +33,23 @@ pub fn are_one(words: &[String], word: &str) -> bool
     ensures { IsTrue result ↔ AreOne word.now words.now }
 {
     words.len() == 1 && words[0].as_str() == word
+}
+
+/// The task that the words ask for: `run`, or `gen` and a seed.
+pub fn task_of(words: &[String]) -> Option<Task>
+    ensures { result ≡ task_of words.now }
+{
+    match words {
+        [word] if word.as_str() == "run" => Some(Task::Run),
+        [word, seed] if word.as_str() == "gen" => Some(Task::Generate(seed_of(seed)?)),
+        _ => None,
+    }
+}
+
+// The seed that a text of 1 to 20 digits writes, if it is one.
+fn seed_of(text: &str) -> Option<u64>
+    ensures { result ≡ seed_of text.now }
+{
+    let seed = number_up_to(text.as_bytes(), MOST_SEED)?;
+    if LEAST_SEED <= seed { Some(seed) } else { None }
 }

@@ -8,14 +8,14 @@ mod plain_coder;
 use anyhow::Result;
 use av1_settings::{Config, EncoderConfig, EncoderStatus};
 use plain_coder::PlainCoder;
-use scripted::{ScriptedCoder, no_levels};
-use session_core::{ContextInner, FrameCoder, NoDetector};
+use scripted::{ScriptedCoder, no_levels, scripted_tables};
+use session_core::{ContextInner, FrameCoder, NoDetector, NoScale};
 use std::alloc::Global;
 use std::env;
 use std::sync::Arc;
 use std::time::Instant;
 
-type Session<C> = ContextInner<u8, u64, NoDetector, C>;
+type Session<C> = ContextInner<u8, u64, NoDetector, NoScale, C>;
 
 /// What came of a session.
 #[derive(Drop)]
@@ -66,7 +66,15 @@ fn run<C: FrameCoder<u8> + Drop>(
     coder: C,
 ) -> Result<Outcome> {
     let cfg = Config::new().with_encoder_config(settings(low_latency));
-    let mut session: Session<C> = ContextInner::new(alloc, &cfg, &no_levels(), NoDetector, coder)?;
+    let mut session: Session<C> = ContextInner::new(
+        alloc,
+        &cfg,
+        &no_levels(),
+        &scripted_tables(),
+        NoDetector,
+        NoScale,
+        coder,
+    )?;
     let picture = Arc::new(alloc, session.new_frame(alloc)?)?;
     let mut outcome = Outcome {
         packets: 0,

@@ -3,8 +3,10 @@
 
 mod command_lines;
 mod report;
+mod summary;
 #[cfg(test)]
 mod tests;
 
 pub use command_lines::write_command;
 pub use report::{ReportOptions, report_text};
+pub use summary::summary_text;

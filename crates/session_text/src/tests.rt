@@ -2,7 +2,7 @@ use super::*;
 use av1_settings::{EncoderStats, EncoderStatus, FrameType};
 use coding_base::{Bytes, Sequence};
 use pyramid::{Command, Refs};
-use session_core::{LogEntry, LogList, Packet, Reply, Turn};
+use session_core::{LogEntry, LogList, Packet, QuantizerParameters, Reply, Turn};
 use std::alloc::Global;
 use std::test::Fail;
 
@@ -53,8 +53,59 @@ fn commands_have_their_lines(rt: HostRuntime) -> Result<(), Fail> {
 
 fn turn(alloc: Global, reply: Reply<u8, u64>, log: LogList) -> Result<Vec<Turn<u8, u64>>, Fail> {
     let mut turns = Vec::new(alloc);
-    turns.push(Turn { reply, log })?;
+    turns.push(Turn {
+        reply,
+        log,
+        reservoir: Some(-7),
+    })?;
     Ok(turns)
+}
+
+// Options without and with all that may be added.
+fn options() -> [ReportOptions; 2] {
+    [false, true].map(|all| ReportOptions {
+        bytes: all,
+        quantizer_index: all,
+        reservoir: all,
+    })
+}
+
+// An entry of frame 4, with index 78.
+fn coded(alloc: Global, trial: bool) -> Result<LogEntry, Fail> {
+    Ok(LogEntry {
+        command: Command::Code {
+            frame: 4,
+            kind: FrameType::KEY,
+            refs: Refs::new(&[]).ok_or("no slots")?,
+            refresh: 255,
+            shown: true,
+        },
+        trial,
+        bytes: Sequence::new(alloc),
+        quant: Some(QuantizerParameters {
+            log_base_q: 1,
+            log_target_q: 2,
+            dc_qi: [3, 4, 5],
+            ac_qi: [78, 7, 8],
+            searched_q: None,
+            lambda_q57: 9,
+            dist_scale_q16: [10, 11, 12],
+        }),
+        mean_scale: 0,
+    })
+}
+
+fn packet(bytes: Bytes) -> Packet<u8, u64> {
+    Packet {
+        bytes,
+        rec: None,
+        source: None,
+        input_frameno: 4,
+        frame_type: FrameType::INTER,
+        qp: 78,
+        enc_stats: EncoderStats::default(),
+        opaque: None,
+    }
 }
 
 #[test]
@@ -85,8 +136,8 @@ fn replies_have_their_lines(rt: HostRuntime) -> Result<(), Fail> {
         (Reply::Status(EncoderStatus::OutOfMemory), "out-of-memory\n"),
     ] {
         let turns = turn(alloc, reply, Sequence::new(alloc))?;
-        for bytes in [false, true] {
-            let text = report_text(alloc, ReportOptions { bytes }, &turns)?;
+        for options in options() {
+            let text = report_text(alloc, options, &turns)?;
             assert_eq!(rt; text.as_str(), line);
         }
     }
@@ -98,30 +149,59 @@ fn a_packet_stands_behind_its_commands(rt: HostRuntime) -> Result<(), Fail> {
     let alloc = rt.alloc();
     let bytes: Bytes = Sequence::from_slice(alloc, &[0x12, 0, 0xaf])?;
     let mut log = LogList::new(alloc);
+    log.push(coded(alloc, true)?)?;
+    log.push(coded(alloc, false)?)?;
     log.push(LogEntry {
         command: Command::Show { slot: 1 },
         trial: false,
         bytes: Sequence::new(alloc),
+        quant: None,
+        mean_scale: 0,
     })?;
-    let packet = Packet {
-        bytes,
-        rec: None,
-        source: None,
-        input_frameno: 4,
-        frame_type: FrameType::INTER,
-        enc_stats: EncoderStats::default(),
-        opaque: None,
-    };
-    let turns = turn(alloc, Reply::Packet(packet), log)?;
-    for (bytes, wanted) in [
-        (false, "show 1\nFrame 4 - Inter frame - 3 bytes\n"),
-        (
-            true,
-            "show 1\nFrame 4 - Inter frame - 3 bytes\nbytes 1200af\n",
-        ),
-    ] {
-        let text = report_text(alloc, ReportOptions { bytes }, &turns)?;
+    let turns = turn(alloc, Reply::Packet(packet(bytes)), log)?;
+    let plain =
+        "trial 4\ncode 4 key refs - refresh 255 shown\nshow 1\nFrame 4 - Inter frame - 3 bytes\n";
+    let whole = "trial 4\ncode 4 key refs - refresh 255 shown\nq 78\nshow 1\n\
+        Frame 4 - Inter frame - 3 bytes\nbytes 1200af\nreservoir -7\n";
+    for (options, wanted) in options().into_iter().zip([plain, whole]) {
+        let text = report_text(alloc, options, &turns)?;
         assert_eq!(rt; text.as_str(), wanted);
     }
+    Ok(())
+}
+
+#[test]
+fn a_session_has_six_lines(rt: HostRuntime) -> Result<(), Fail> {
+    let alloc = rt.alloc();
+    let mut turns: Vec<Turn<u8, u64>> = Vec::new(alloc);
+    let none = summary_text(alloc, &turns)?;
+    let empty = "frames 0\nkeys 0\nhidden 0\npackets 0\nbytes 0\n";
+    assert_eq!(rt; none.as_str(), empty);
+    let mut log = LogList::new(alloc);
+    log.push(coded(alloc, true)?)?;
+    log.push(coded(alloc, false)?)?;
+    for (reply, log, reservoir) in [
+        (Reply::Sent(0), LogList::new(alloc), Some(5)),
+        (Reply::Sent(1), LogList::new(alloc), None),
+        (
+            Reply::Packet(packet(Sequence::from_slice(alloc, &[1, 2, 3])?)),
+            log,
+            Some(4),
+        ),
+        (
+            Reply::Packet(packet(Sequence::from_slice(alloc, &[4])?)),
+            LogList::new(alloc),
+            Some(-3),
+        ),
+    ] {
+        turns.push(Turn {
+            reply,
+            log,
+            reservoir,
+        })?;
+    }
+    let text = summary_text(alloc, &turns)?;
+    let wanted = "frames 2\nkeys 1\nhidden 0\npackets 2\nbytes 4\nreservoir -3\n";
+    assert_eq!(rt; text.as_str(), wanted);
     Ok(())
 }

@@ -1,8 +1,8 @@
-use super::{first_other, first_refused};
+use super::first_other;
 use crate::{ScriptError, parse};
 
 #[test]
-fn spaces_stand_between_words_alone(rt: HostRuntime) {
+fn other_lines_are_bad(rt: HostRuntime) {
     let lines = [
         "send  2\n",
         "send\t2\n",
@@ -11,52 +11,41 @@ fn spaces_stand_between_words_alone(rt: HostRuntime) {
         "send \n",
         " \n",
         " # no comment\n",
-    ];
-    assert_eq!(rt; first_other(rt.alloc(), &lines, 1), None);
-}
-
-#[test]
-fn other_words_are_no_lines(rt: HostRuntime) {
-    let lines = [
         "x",
         "x\n",
         "size 64\n",
         "size 64 80 1\n",
         "sendkey 2\n",
         "gop 2\n",
-    ];
-    assert_eq!(rt; first_other(rt.alloc(), &lines, 1), None);
-}
-
-#[test]
-fn numbers_are_digits_that_fit(rt: HostRuntime) {
-    let lines = [
         "send +2\n",
         "send -2\n",
         "send 0\n",
         "send 000000000000000000002\n",
         "keyint 0 18446744073709551616\n",
         "rdo 99999999999999999999\n",
+        "send 100001\n",
+        "send 18446744073709551615\n",
     ];
-    assert_eq!(rt; first_other(rt.alloc(), &lines, 1), None);
+    assert_eq!(rt; first_other(rt.alloc(), &lines, Some(1)), None);
 }
 
 #[test]
-fn calls_are_100000_at_most(rt: HostRuntime) {
-    let lines = ["send 100001\n", "send 18446744073709551615\n"];
-    assert_eq!(rt; first_other(rt.alloc(), &lines, 1), None);
-    let scripts = ["send 100000\n# full\nflush\n", "send 99999\nflush\nflush\n"];
-    assert_eq!(rt; first_other(rt.alloc(), &scripts, 3), None);
-}
-
-#[test]
-fn settings_stand_once_and_before_the_calls(rt: HostRuntime) {
-    let scripts = ["rdo 1\nrdo 1\n", "send\nrdo 1\n", "flush\nkeyint 1 2\n"];
-    assert_eq!(rt; first_other(rt.alloc(), &scripts, 2), None);
-    let with_empty = ["size 64 80\n\nsize 64 80\n"];
-    assert_eq!(rt; first_other(rt.alloc(), &with_empty, 3), None);
-    let between = ["size 64 80\nkeyint 0 5\nrdo 1\nkeyint 0 5\n"];
-    assert_eq!(rt; first_other(rt.alloc(), &between, 4), None);
+fn a_line_may_be_bad_behind_others(rt: HostRuntime) {
+    let second = [
+        "rdo 1\nrdo 1\n",
+        "send\nrdo 1\n",
+        "flush\nkeyint 1 2\n",
+        "send 100000\nsendopaque 1\n",
+    ];
+    assert_eq!(rt; first_other(rt.alloc(), &second, Some(2)), None);
+    let third = [
+        "send 100000\n# full\nflush\n",
+        "send 99999\nflush\nflush\n",
+        "size 64 80\n\nsize 64 80\n",
+        "level 1\nrdo 1\nlevel 2\n",
+        "still\n\nstill\n",
+    ];
+    assert_eq!(rt; first_other(rt.alloc(), &third, Some(3)), None);
 }
 
 #[test]
@@ -68,8 +57,12 @@ fn other_scripts_have_no_bad_line(rt: HostRuntime) {
         "send\nreceive\nflush\n",
         "flush\nreceive 2\nsend\n",
         "send 100000\n",
+        "sendopaque 00000000000000000007",
+        "sendsize 064 1\n",
+        "scale 0 9223372036854775807\nscale 0 -9223372036854775808\nscale 1 -0\n",
+        "print reservoir\nprint q\nprint bytes\n",
     ];
-    assert_eq!(rt; first_refused(rt.alloc(), &scripts), None);
+    assert_eq!(rt; first_other(rt.alloc(), &scripts, None), None);
 }
 
 #[test]

@@ -7,7 +7,7 @@ use super::*;
 use av1_settings::RateControlConfig;
 use std::process::Abort;
 
-type Frames<O> = Context<u16, O, NoDetector, SizedCoder>;
+type Frames<O> = Context<u16, O, NoDetector, NoScale, SizedCoder>;
 
 // A session that hasn't begun; its coder's call number `fails` fails.
 fn context<O: Drop>(
@@ -15,9 +15,15 @@ fn context<O: Drop>(
     enc: EncoderConfig,
     fails: u64,
 ) -> Result<Frames<O>, SetupError> {
-    Config::new()
-        .with_encoder_config(enc)
-        .new_context(alloc, &no_levels(), NoDetector, SizedCoder::new(fails))
+    let tables = tables().ok_or(SetupError::OutOfMemory)?;
+    Config::new().with_encoder_config(enc).new_context(
+        alloc,
+        &no_levels(),
+        &tables,
+        NoDetector,
+        NoScale,
+        SizedCoder::new(fails),
+    )
 }
 
 fn picture(alloc: Global) -> Result<Arc<Frame<u16>>, OutOfMemory> {
@@ -154,12 +160,15 @@ fn metadata_stays_with_its_frame(rt: HostRuntime) -> Result<(), Fail> {
         inner: SizedCoder::new(99),
         notes: Vec::new(alloc),
     };
+    let tables = tables().ok_or(SetupError::OutOfMemory)?;
     let cfg = Config::new().with_encoder_config(settings(5, 10));
-    let mut context: ContextInner<u16, u64, NoDetector, NotingCoder> = ContextInner::new(
+    let mut context: ContextInner<u16, u64, NoDetector, NoScale, NotingCoder> = ContextInner::new(
         alloc,
         &cfg,
         &no_levels(),
+        &tables,
         NoDetector,
+        NoScale,
         coder,
     )?;
     for _ in 0..2 {
@@ -208,6 +217,7 @@ const SUMMARY: [u8; 36] = [
 ];
 
 fn refusal(alloc: Global, bitrate: i32, rate_control: RateControlConfig) -> Option<SetupError> {
+    let tables = tables()?;
     let mut enc = settings(5, 10);
     enc.bitrate = bitrate;
     let cfg = Config::new()
@@ -216,7 +226,9 @@ fn refusal(alloc: Global, bitrate: i32, rate_control: RateControlConfig) -> Opti
     let made: Result<Frames<u64>, SetupError> = cfg.new_context(
         alloc,
         &no_levels(),
+        &tables,
         NoDetector,
+        NoScale,
         SizedCoder::new(99),
     );
     made.err()
@@ -230,7 +242,7 @@ fn what_isnt_built_is_refused(rt: HostRuntime) -> Result<(), Fail> {
     let unbuilt = Some(SetupError::Unbuilt);
     let invalid = Some(SetupError::Invalid(InvalidConfig::TargetBitrateNeeded));
     assert_eq!(rt; refusal(alloc, 0, RateControlConfig::new()), None);
-    assert_eq!(rt; refusal(alloc, 30000, RateControlConfig::new()), unbuilt);
+    assert_eq!(rt; refusal(alloc, 30000, RateControlConfig::new()), None);
     assert_eq!(rt;
         refusal(alloc, 30000, RateControlConfig::new().with_emit_data(true)),
         unbuilt
@@ -302,12 +314,15 @@ fn each_way_to_send_a_frame(rt: HostRuntime) -> Result<(), Fail> {
 #[test]
 fn what_a_session_says_of_itself(rt: HostRuntime) -> Result<(), Fail> {
     let alloc = rt.alloc();
+    let tables = tables().ok_or(SetupError::OutOfMemory)?;
     let cfg = Config::new().with_encoder_config(settings(5, 10));
-    let mut context: ContextInner<u16, u64, NoDetector, SizedCoder> = ContextInner::new(
+    let mut context: ContextInner<u16, u64, NoDetector, NoScale, SizedCoder> = ContextInner::new(
         alloc,
         &cfg,
         &no_levels(),
+        &tables,
         NoDetector,
+        NoScale,
         SizedCoder::new(99),
     )?;
     assert!(rt; context.needs_more_fi_lookahead());
@@ -370,10 +385,7 @@ fn texts_of_faults_and_refusals(rt: HostRuntime) -> Result<(), Fail> {
     let memory = SetupError::OutOfMemory.to_string(alloc)?;
     assert_eq!(rt; memory.as_str(), "out of memory");
     let unbuilt = SetupError::Unbuilt.to_string(alloc)?;
-    assert_eq!(rt;
-        unbuilt.as_str(),
-        "sessions with a bitrate or in two passes aren't built yet"
-    );
+    assert_eq!(rt; unbuilt.as_str(), "sessions in two passes aren't built yet");
     Ok(())
 }
 
@@ -382,12 +394,15 @@ fn frames_are_held_until_their_packets_are_given(rt: HostRuntime) -> Result<(), 
     let alloc = rt.alloc();
     let mut enc = settings(100, 1);
     enc.low_latency = true;
+    let tables = tables().ok_or(SetupError::OutOfMemory)?;
     let cfg = Config::new().with_encoder_config(enc);
-    let mut session: ContextInner<u16, u64, NoDetector, SizedCoder> = ContextInner::new(
+    let mut session: ContextInner<u16, u64, NoDetector, NoScale, SizedCoder> = ContextInner::new(
         alloc,
         &cfg,
         &no_levels(),
+        &tables,
         NoDetector,
+        NoScale,
         SizedCoder::new(99),
     )?;
     for _ in 0..5 {

@@ -1,15 +1,14 @@
-use Rattle.std.proofs.Common.{◌≡◌, ◌<ℤ◌, pos, false, None, Some, Err, map, option_map, refl, sym, ap, subst₂, ◌∙◌, arith}
-use Rattle.std.proofs.lemmas.Int.{ints}
+use Rattle.std.proofs.Common.{◌≡◌, false, None, Some, Err, map, option_map, refl, sym, ap, subst₂, ◌∙◌}
 use Rattle.av1_settings.specs.declared.config.Config.{Config}
 use Rattle.av1_settings.specs.declared.level.LevelTables.{LevelTables}
 use Rattle.av1_settings.specs.Checks.{asks_passes, session_refusal}
 use Rattle.av1_settings.specs.Invalid.{number_of}
 use Rattle.script_lines.specs.Grammar.{IsConfig, config_of, summary_refusal}
 use Rattle.scripted.specs.NoLevels.{no_levels}
-use Rattle.session_core.specs.declared.session.SessionError.TheVariants.{CoderFault, Unbuilt}
+use Rattle.session_core.specs.declared.session.SessionError.TheVariants.{CoderFault}
+use Rattle.session_script.specs.declared.outcome.Layout.TheVariants.{Turns}
 use Rattle.session_script.specs.Calls.{asked_by, asked_for}
 use Rattle.session_script.proofs.Carrying.{carries, stops}
-use Rattle.session_script.proofs.NoBitrate.{no_bitrate}
 use Rattle.session_script.proofs.ScriptConfigs.{some_cause}
 use Rattle.session_script.proofs.run.carry_out_script.Goals as goal
 
@@ -40,8 +39,8 @@ returns-in-Ok-run_session c =
     let single : asks_passes config ≡ false = rw c.in_default-validate_for_session.is at c.validate_for_session.ensures.one_pass in
     let calls = c.in-Ok-session_calls.calls.items in
     let asked : map asked_by calls ≡ map (asked_for config.enc) script.calls = rw c.as_slice.ensures at c.in-Ok-session_calls.ensures in
-    let carried = carries script config c.no_levels-levels.result calls _ _ made none c.no_levels-levels.ensures single asked c.in-Ok-begin.ensures c.in-Ok-run_session.transcript c.in-Ok-run_session.ensures.session in
-    record { outcome = (carried, c.report_options.ensures) }
+    let carried = carries script config c.no_levels-levels.result c.scripted_tables-tables.result calls _ _ made none c.no_levels-levels.ensures c.scripted_tables-tables.ensures single asked c.in-Ok-begin.ensures c.in-Ok-run_session.transcript c.in-Ok-run_session.ensures.session in
+    record { outcome = (carried, ap Turns c.report_options.ensures) }
 
 pub returns-in-Err-CoderFault : goal.returns-in-Err-CoderFault
 returns-in-Err-CoderFault c =
@@ -54,14 +53,4 @@ returns-in-Err-CoderFault c =
     let asked : map asked_by calls ≡ map (asked_for config.enc) script.calls = rw c.as_slice.ensures at c.in-Ok-session_calls.ensures in
     let command = c.in-Err-CoderFault.command in
     let is : c.run_session.result ≡ Err (CoderFault command) = c.in-Err-CoderFault.is ∙ ap Err c.in-Err-CoderFault.field-0-is in
-    record { outcome = stops script config c.no_levels-levels.result calls _ _ made none c.no_levels-levels.ensures single asked c.in-Ok-begin.ensures command (c.run_session.ensures.fault command is) }
-
-pub unreachable-requires-in-Err-Unbuilt : goal.unreachable-requires-in-Err-Unbuilt
-unreachable-requires-in-Err-Unbuilt c =
-    let script = c.args.script.now in
-    let config = c.in-Ok.config in
-    let made : IsConfig script config = (c.config.ensures.accepted config).0 c.in-Ok.is in
-    let is : c.run_session.result ≡ Err Unbuilt = c.in-Err-Unbuilt.is ∙ ap Err c.in-Err-Unbuilt.field-0-is in
-    let positive : pos 0 <ℤ config.enc.bitrate = (c.run_session.ensures.unbuilt is).1 in
-    let same : config.enc.bitrate ≡ pos 0 = ap (λ (config : Config). config.enc.bitrate) made.2 ∙ no_bitrate script.settings in
-    omega (arith, ints, positive, same)
+    record { outcome = stops script config c.no_levels-levels.result c.scripted_tables-tables.result calls _ _ made none c.no_levels-levels.ensures c.scripted_tables-tables.ensures single asked c.in-Ok-begin.ensures command (c.run_session.ensures.fault command is) }

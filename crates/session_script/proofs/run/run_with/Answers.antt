@@ -1,6 +1,7 @@
+use Rattle.std.proofs.Common.{sym, ◌∙◌}
 use Rattle.session_script.proofs.Answered.{told_run}
 use Rattle.session_script.proofs.run.run_with.Goals as goal
 
 pub returns-clause-outcome : goal.returns-clause-outcome
 returns-clause-outcome g c =
-    told_run _ _ _ _ (c.are_one.ensures.0 c.if-not-are_one.false) c.carry_out-outcome.ensures.reads c.carry_out-outcome.ensures.later _ _ c.carry_out-outcome.ensures.cause c.tell.ensures.told c.tell.ensures.writes
+    told_run _ _ _ _ c.in-Some.task (sym c.task_of.ensures ∙ c.in-Some.is) c.carry_out-outcome.ensures.reads c.carry_out-outcome.ensures.later _ _ c.carry_out-outcome.ensures.cause c.tell.ensures.told c.tell.ensures.writes

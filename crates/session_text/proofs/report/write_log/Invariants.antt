@@ -3,4 +3,5 @@ use Rattle.session_text.specs.ReportLines.{log_lines}
 use Rattle.session_text.proofs.report.write_log.Given as goal
 
 abbrev pub invariant-loop-entry : goal.invariant-loop-entry
-invariant-loop-entry l = string_bytes l.text ≡ string_bytes l.fn.text ++ log_lines (take l.entry-index l.log)
+invariant-loop-entry l =
+    string_bytes l.text ≡ string_bytes l.fn.text ++ log_lines l.options (take l.entry-index l.log)

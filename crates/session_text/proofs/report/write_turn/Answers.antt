@@ -4,4 +4,6 @@ use Rattle.session_text.proofs.report.write_turn.Goals as goal
 
 pub returns : goal.returns
 unfolding turn_lines
-returns g c = rw (c.in_ok-write_behind.ensures, c.in_ok-write_reply.ensures, c.in_ok-write_log.ensures, c.as_slice.ensures) (simp append_assoc)
+returns g c =
+    rw (c.in_ok-write_reservoir.ensures, c.in_ok-write_behind.ensures, c.in_ok-write_reply.ensures, c.in_ok-write_log.ensures, c.as_slice.ensures)
+    (simp append_assoc)

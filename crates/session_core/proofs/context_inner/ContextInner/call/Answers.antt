@@ -10,55 +10,55 @@ turn-turn-requires-clause-ready g c = held-ready _ _ _ c.self.invariant (none-of
 
 pub invariant_of-self : goal.invariant_of-self
 invariant_of-self g c =
-    held-step _ _ _ _ _ c.args.call c.in-Ok.turn _ _ c.self.invariant (none-of _ (sym c.if-is_some.ensures)) c.in-Ok.ensures.step c.in-Ok.ensures.kept
+    held-step _ _ _ _ _ _ c.args.call c.in-Ok.turn _ _ c.self.invariant (none-of _ (sym c.if-is_some.ensures)) c.in-Ok.ensures.step c.in-Ok.ensures.kept
 
 pub returns-in-Ok : goal.returns-in-Ok
 returns-in-Ok g c =
     let inside = c.self.inside in
-    let after : Session g.row.T.Denot g.row.O.Denot g.row.D.Denot g.row.C.Denot =
-    session_of inside.enc c.turn-turn.new.self inside.failure c.turn-turn.new.detector c.turn-turn.new.coder in
-    let Calls : Session g.row.T.Denot g.row.O.Denot g.row.D.Denot g.row.C.Denot → Type 0 = λ before.
+    let after : Session g.row.T.Denot g.row.O.Denot g.row.D.Denot g.row.S.Denot g.row.C.Denot =
+    session_of inside.enc c.turn-turn.new.self inside.failure c.turn-turn.new.detector c.turn-turn.new.scales c.turn-turn.new.coder in
+    let Calls : Session g.row.T.Denot g.row.O.Denot g.row.D.Denot g.row.S.Denot g.row.C.Denot → Type 0 = λ before.
     IsCall GivesReply c.args.call before after
-    (heard (g.C.FrameCoder.told before.coder) (g.D.Detector.told before.detector))
-    (heard (g.C.FrameCoder.told after.coder) (g.D.Detector.told after.detector)) (Ok c.in-Ok.turn.reply) in
+    (heard (g.C.FrameCoder.told before.coder) (g.D.Detector.told before.detector) (g.S.MeanScale.told before.scales))
+    (heard (g.C.FrameCoder.told after.coder) (g.D.Detector.told after.detector) (g.S.MeanScale.told after.scales)) (Ok c.in-Ok.turn.reply) in
     record {
       call = subst Calls c.self.view_is
-          (call-of-turn inside.enc inside.state c.turn-turn.new.self inside.failure inside.detector c.turn-turn.new.detector inside.coder c.turn-turn.new.coder
-          c.args.call c.in-Ok.turn _ _ (none-of _ (sym c.if-is_some.ensures)) c.in-Ok.ensures.step c.in-Ok.ensures.refused
+          (call-of-turn inside.enc inside.state c.turn-turn.new.self inside.failure inside.detector c.turn-turn.new.detector inside.scales c.turn-turn.new.scales inside.coder c.turn-turn.new.coder
+          c.args.call c.in-Ok.turn _ _ (none-of _ (sym c.if-is_some.ensures)) c.in-Ok.ensures.step c.turn-turn.ensures.tables c.in-Ok.ensures.refused
           c.turn-turn.ensures.unused c.turn-turn.ensures.later);
       again = λ flush none flushed.
-          let was : inside.state.flushed ≡ true = ap (λ (s : Session g.row.T.Denot g.row.O.Denot g.row.D.Denot g.row.C.Denot). s.moment.flushed) c.self.view_is ∙ flushed in
+          let was : inside.state.flushed ≡ true = ap (λ (s : Session g.row.T.Denot g.row.O.Denot g.row.D.Denot g.row.S.Denot g.row.C.Denot). s.moment.flushed) c.self.view_is ∙ flushed in
           let same = c.in-Ok.ensures.again flush was in
-          let coder : c.turn-turn.new.coder ≡ inside.coder = rw flush at c.turn-turn.ensures.unused in (
+          let unused : (c.turn-turn.new.coder ≡ inside.coder) × (c.turn-turn.new.scales ≡ inside.scales) = rw flush at c.turn-turn.ensures.unused in (
             ap Ok same.0,
-            session-same inside.enc inside.state c.turn-turn.new.self inside.failure inside.detector c.turn-turn.new.detector inside.coder c.turn-turn.new.coder
-                same.2 same.3 coder ∙ c.self.view_is,
+            session-same inside.enc inside.state c.turn-turn.new.self inside.failure inside.detector c.turn-turn.new.detector inside.scales c.turn-turn.new.scales inside.coder c.turn-turn.new.coder
+                same.2 same.3 unused.1 unused.0 ∙ c.self.view_is,
           );
     }
 
 pub returns-in-Err-clause-call : goal.returns-in-Err-clause-call
 returns-in-Err-clause-call g c =
     let inside = c.self.inside in
-    let after : Session g.row.T.Denot g.row.O.Denot g.row.D.Denot g.row.C.Denot =
-    session_of inside.enc c.turn-turn.new.self (Some c.in-Err.fault) c.turn-turn.new.detector c.turn-turn.new.coder in
-    let Calls : Session g.row.T.Denot g.row.O.Denot g.row.D.Denot g.row.C.Denot → Type 0 = λ before.
+    let after : Session g.row.T.Denot g.row.O.Denot g.row.D.Denot g.row.S.Denot g.row.C.Denot =
+    session_of inside.enc c.turn-turn.new.self (Some c.in-Err.fault) c.turn-turn.new.detector c.turn-turn.new.scales c.turn-turn.new.coder in
+    let Calls : Session g.row.T.Denot g.row.O.Denot g.row.D.Denot g.row.S.Denot g.row.C.Denot → Type 0 = λ before.
     IsCall GivesReply c.args.call before after
-    (heard (g.C.FrameCoder.told before.coder) (g.D.Detector.told before.detector))
-    (heard (g.C.FrameCoder.told after.coder) (g.D.Detector.told after.detector)) (Err c.status.result) in
+    (heard (g.C.FrameCoder.told before.coder) (g.D.Detector.told before.detector) (g.S.MeanScale.told before.scales))
+    (heard (g.C.FrameCoder.told after.coder) (g.D.Detector.told after.detector) (g.S.MeanScale.told after.scales)) (Err c.status.result) in
     subst Calls c.self.view_is
-    (call-of-fault inside.enc inside.state c.turn-turn.new.self inside.failure inside.detector c.turn-turn.new.detector inside.coder c.turn-turn.new.coder
-    c.args.call c.in-Err.fault c.status.result _ _ (none-of _ (sym c.if-is_some.ensures)) c.status.ensures c.in-Err.ensures.failed
+    (call-of-fault inside.enc inside.state c.turn-turn.new.self inside.failure inside.detector c.turn-turn.new.detector inside.scales c.turn-turn.new.scales inside.coder c.turn-turn.new.coder
+    c.args.call c.in-Err.fault c.status.result _ _ (none-of _ (sym c.if-is_some.ensures)) c.status.ensures c.in-Err.ensures.failed c.turn-turn.ensures.tables
     (λ number at. c.turn-turn.ensures.stays number (c.in-Err.is ∙ ap Err at)) c.turn-turn.ensures.unused c.turn-turn.ensures.later)
 
 pub returns-then-is_some-clause-call : goal.returns-then-is_some-clause-call
 returns-then-is_some-clause-call g c =
     let inside = c.self.inside in
-    let before : Session g.row.T.Denot g.row.O.Denot g.row.D.Denot g.row.C.Denot =
-    session_of inside.enc inside.state inside.failure inside.detector inside.coder in
-    let Calls : Session g.row.T.Denot g.row.O.Denot g.row.D.Denot g.row.C.Denot → Type 0 = λ now.
+    let before : Session g.row.T.Denot g.row.O.Denot g.row.D.Denot g.row.S.Denot g.row.C.Denot =
+    session_of inside.enc inside.state inside.failure inside.detector inside.scales inside.coder in
+    let Calls : Session g.row.T.Denot g.row.O.Denot g.row.D.Denot g.row.S.Denot g.row.C.Denot → Type 0 = λ now.
     IsCall GivesReply c.args.call now now
-    (heard (g.C.FrameCoder.told now.coder) (g.D.Detector.told now.detector))
-    (heard (g.C.FrameCoder.told now.coder) (g.D.Detector.told now.detector)) (Err Failure) in
+    (heard (g.C.FrameCoder.told now.coder) (g.D.Detector.told now.detector) (g.S.MeanScale.told now.scales))
+    (heard (g.C.FrameCoder.told now.coder) (g.D.Detector.told now.detector) (g.S.MeanScale.told now.scales)) (Err Failure) in
     subst Calls c.self.view_is (call-of-failed c.args.call before _ _ (sym c.if-is_some.ensures))
 
 pub invariant_of-self-in-Err : goal.invariant_of-self-in-Err

@@ -13,12 +13,12 @@ all_known g c none = c.places_held.ensures _ _ _ _ _ _ (kept-schedule _ _ (c.sel
 
 pub returns-clause-known : goal.returns-clause-known
 returns-clause-known g c =
-    let Holds : Session g.row.T.Denot g.row.O.Denot g.row.D.Denot g.row.C.Denot → Type 0 = λ now.
+    let Holds : Session g.row.T.Denot g.row.O.Denot g.row.D.Denot g.row.S.Denot g.row.C.Denot → Type 0 = λ now.
     now.failure ≡ None → c.places_held.result ≡ length (places_ahead now.enc now.moment) in
     subst Holds c.self.view_is (all_known g c)
 
 pub returns-clause-few : goal.returns-clause-few
 returns-clause-few g c =
-    let Holds : Session g.row.T.Denot g.row.O.Denot g.row.D.Denot g.row.C.Denot → Type 0 = λ now.
+    let Holds : Session g.row.T.Denot g.row.O.Denot g.row.D.Denot g.row.S.Denot g.row.C.Denot → Type 0 = λ now.
     now.failure ≡ None → c.places_held.result ≤ length (places_ahead now.enc now.moment) + 2 in
     subst Holds c.self.view_is (λ none. omega (arith, all_known g c none))

@@ -10,3 +10,4 @@ invariant-loop-position g l =
     (length l.self.decisions.items)
     × (l.position ≡ length l.self.decisions.items + 1)
     × IsDetectorLater (g.D.Detector.told l.fn.detector) (g.D.Detector.told l.detector)
+    × (l.self.rate ≡ l.fn.self.rate)

@@ -5,7 +5,7 @@ use Rattle.pyramid.specs.Settings.{numbers_of}
 use Rattle.session_core.specs.Decisions.{decided_count, keys_of}
 use Rattle.session_core.specs.States.{moment_of}
 use Rattle.session_core.proofs.Deciding.{Made, asked-none, made-of, made-decides, made-all, made-asked}
-use Rattle.session_core.proofs.Scheduling.{flushed-scheduled, is-kept, kept-last_key, kept-schedule}
+use Rattle.session_core.proofs.Scheduling.{flushed-scheduled, is-kept, kept-last_key, kept-rated, kept-schedule, still-rated}
 use Rattle.session_core.proofs.state.SessionState.flush.Given as given
 use Rattle.session_core.proofs.state.SessionState.flush.Goals as goal
 
@@ -37,6 +37,9 @@ returns-clause-kept g c =
     (flushed-scheduled enc _ (record self { flushed = true }) c.decide.new.self _ _ _ _ self.accepted c.in_ok-decide.ensures.decided
     (c.requires.ready.decided ∙ ap (decided_count (numbers_of enc) self.accepted) open_yet) (λ e. omega (arith, e, c.saturating_sub-last.ensures)) was
     c.close.new.self refl (omega arith) c.in_ok-close.ensures.closed)
+    (still-rated enc self (record c.decide.new.self { schedule = c.close.new.self }) (kept-rated _ _ c.requires.kept)
+    (ap (λ state. state.log) c.in_ok-decide.ensures.decided.others) (ap (λ state. state.commands) c.in_ok-decide.ensures.decided.others)
+    (ap (λ state. state.rate) c.in_ok-decide.ensures.decided.others))
 
 pub decide-requires-clause-last_key : goal.decide-requires-clause-last_key
 decide-requires-clause-last_key g c = kept-last_key c.args.enc.now c.args.self.now c.requires.kept

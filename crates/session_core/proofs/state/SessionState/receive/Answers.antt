@@ -1,100 +1,191 @@
+use Rattle.std.proofs.Common.{◌≡◌, ℤ, ◌≤◌, ◌+◌, [], IfOk, OnOk, None, Some, refl, sym, ap, subst, subst₂, ◌∙◌, append-nil, to_z, of_z, w64, rules}
 use Rattle.std.specs.List.{slice_get}
-use Rattle.std.proofs.Common.{◌≡◌, ◌<◌, ◌+◌, length, ◌∷◌, [], ◌++◌, List, None, Some, refl, sym, ap, subst, ◌∙◌}
-use Rattle.session_core.specs.declared.transcript.LogEntry.{LogEntry}
-use Rattle.session_core.specs.Moments.{Moment, known_at, plan_at}
-use Rattle.session_core.specs.Questions.{last_key}
-use Rattle.session_core.specs.States.{moment_of, CanCode, IsScheduled}
-use Rattle.session_core.specs.declared.transcript.Decision.{Decision}
-use Rattle.session_core.specs.Turns.{held_back}
-use Rattle.session_core.proofs.CallLoop.{received-kept}
-use Rattle.session_core.proofs.Scheduling.{commands-fit, is-kept, kept-last_key, kept-schedule, next-planned, next-there, received-scheduled}
-use Rattle.session_core.proofs.StateLemmas.{coding-fails, received-refused, taken-coded, turn-codes, where-refused}
-use Rattle.session_core.proofs.Telling.{taken-none}
+use Rattle.std.proofs.lemmas.Result.{IfOk-weaker, MatchResult-weaker}
+use Rattle.quantizers.specs.Tables.{Tables}
+use Rattle.session_core.specs.declared.state.SessionState.{SessionState}
+use Rattle.session_core.specs.Moments.{Moment, plan_at}
+use Rattle.session_core.specs.Scales.{AreScaled, frame_of, picture_at, scale_list}
+use Rattle.session_core.specs.States.{moment_of, CanCode, FailsCoding, IsAdvanced, IsCodedTurn, IsDue, IsRatedBehind, IsTried}
+use Rattle.session_core.specs.Turns.{AreTrials, after_receive, held_back}
+use Rattle.session_core.proofs.Scheduling.{commands-fit, kept-rated, kept-schedule, next-planned, next-there}
+use Rattle.session_core.proofs.Scaling.{scaled-none}
+use Rattle.session_core.proofs.StateLemmas.{turn-codes}
+use Rattle.session_core.proofs.Telling.{coder-same, coder-then, counts-none, taken-none}
+use Rattle.session_core.proofs.Trying.{begin-none, coding-fails, kept-answered, quiet-quantised, tries-few, tries-marked, tries-of, tries-scales, turn-counted, turn-next, turn-quantised, turn-scaled, turn-taken}
 use Rattle.session_core.proofs.state.SessionState.receive.Given as given
 use Rattle.session_core.proofs.state.SessionState.receive.Goals as goal
 
-pub returns-in-Some-clause-refused : goal.returns-in-Some-clause-refused
-returns-in-Some-clause-refused g c = where-refused c.status.result.reply (refl, refl)
+-- ---- where nothing is coded
+
+pub returns-in-Some-clause-quantised : goal.returns-in-Some-clause-quantised
+returns-in-Some-clause-quantised g c =
+    quiet-quantised c.args.enc.now _ (moment_of c.args.self.now) c.without_log.result c.without_log.ensures.log
+    (c.without_log.ensures.reservoir _ _ _ (kept-rated _ _ c.requires.kept).keeps)
 
 pub returns-in-Some-clause-taken : goal.returns-in-Some-clause-taken
-returns-in-Some-clause-taken g c = rw (c.status.ensures.log, c.status.ensures.reply) (taken-none _)
+returns-in-Some-clause-taken g c = rw (c.without_log.ensures.log, c.without_log.ensures.reply) (taken-none _)
 
--- the log has the one entry
-logged : (g : given.Over) (c : goal.Joined-coded-3 g) → c.push.new.self ≡ c.in-Ok.coded.entry ∷ []
-logged g c =
-    c.in_ok-push.ensures.ok
-    ∙ ap (λ (l : List LogEntry). l ++ c.answer.new.coded.entry ∷ []) c.new-log.ensures
-    ∙ ap (λ (e : LogEntry). e ∷ []) c.in_ok-reply.ensures.entry
+pub returns-in-Some-clause-scaled : goal.returns-in-Some-clause-scaled
+returns-in-Some-clause-scaled g c = rw c.without_log.ensures.log (scaled-none _)
 
-due : (g : given.Over) (c : goal.Joined-coded-3 g) → held_back c.args.enc.now (moment_of c.args.self.now) ≡ None
-due g c = sym c.held_back.ensures ∙ c.in_default.is
-
--- the next command is known
-there : (g : given.Over) (c : goal.Joined-coded-3 g) → c.args.self.now.commands < length (known_at c.args.enc.now (moment_of c.args.self.now))
-there g c = c.requires.ready.there (due g c)
-
--- and is the plan's
-planned : (g : given.Over) (c : goal.Joined-coded-3 g) → slice_get (plan_at c.args.enc.now (moment_of c.args.self.now)) c.args.self.now.commands ≡ Some c.in-Some-next_command.command
-planned g c = next-planned c.args.enc.now (moment_of c.args.self.now) c.next_command.result _ (c.next_command.ensures _ _ _ _ _ _ (kept-schedule _ _ c.requires.kept)) c.in-Some-next_command.is
-
-pub returns-clause-turn : goal.returns-clause-turn
-returns-clause-turn g c = turn-codes c.args.enc.now (moment_of c.args.self.now) _ (due g c) (record {
-  trials = [];
-  entry = c.in-Ok.coded.entry;
-  log = logged g c;
-  command = planned g c ∙ ap Some (sym c.in-Ok.ensures.command);
-  tried = refl;
-  real = c.in-Ok.ensures.real;
-  reply = c.in_ok-reply.ensures.reply;
-})
-
-pub returns-clause-refused : goal.returns-clause-refused
-returns-clause-refused g c = received-refused _ (moment_of c.args.self.now) c.in-Ok.coded.entry c.in_ok-reply.reply c.in_ok-reply.ensures.reply
-
-pub returns-clause-taken : goal.returns-clause-taken
-returns-clause-taken g c =
-    let can = subst (CanCode (moment_of c.args.self.now)) (sym c.in-Ok.ensures.command) (c.requires.ready.next _ (planned g c)) in
-    taken-coded (moment_of c.args.self.now) c.in-Ok.coded c.push.new.self c.in_ok-reply.reply _ _ c.requires.ready.waits can c.in-Ok.ensures.real (logged g c)
-    c.in_ok-reply.ensures.carries c.in-Ok.ensures.calls c.in-Ok.ensures.ahead c.code.ensures.later.gives
-
-pub returns-clause-kept : goal.returns-clause-kept
-returns-clause-kept g c =
-    let enc = c.args.enc.now in
-    let moment = moment_of c.args.self.now in
-    let decided : c.answer.new.self.decisions.items ≡ c.args.self.now.decisions.items =
-    ap (λ (m : Moment g.row.T.Denot g.row.O.Denot). m.decisions) c.in_ok-reply.ensures.after ∙ received-kept moment (c.in-Ok.coded.entry ∷ []) c.in_ok-reply.reply in
-    is-kept enc _
-    (c.in_ok-reply.ensures.last_key ∙ kept-last_key _ _ c.requires.kept ∙ ap (λ (d : List Decision). last_key d (length d + 1)) (sym decided))
-    (subst (λ (m : Moment g.row.T.Denot g.row.O.Denot). IsScheduled enc m c.advance.new.self) (sym c.in_ok-reply.ensures.after)
-    (received-scheduled enc moment c.in-Ok.coded.entry c.in_ok-reply.reply c.advance.new.self c.in-Ok.ensures.real
-    (c.advance.ensures.known _ _ _ _ _ _ (there g c)
-    (subst (IsScheduled enc moment) (sym c.in_ok-reply.ensures.schedule) (kept-schedule _ _ c.requires.kept)))))
-
-pub returns-in-Err-clause-failed : goal.returns-in-Err-clause-failed
-returns-in-Err-clause-failed g c =
-    let due : held_back c.args.enc.now (moment_of c.args.self.now) ≡ None = sym c.held_back.ensures ∙ c.in_default.is in
-    coding-fails c.args.enc.now (moment_of c.args.self.now) c.in-Some-next_command.command _ _ c.in-Err.fault due
-    (next-planned c.args.enc.now (moment_of c.args.self.now) c.next_command.result _ (c.next_command.ensures _ _ _ _ _ _ (kept-schedule _ _ c.requires.kept)) c.in-Some-next_command.is)
-    c.code.ensures.later.gives c.in-Err.ensures.failed
-
-pub code-requires-clause-next : goal.code-requires-clause-next
-code-requires-clause-next g c =
-    c.requires.ready.next _
-    (next-planned c.args.enc.now (moment_of c.args.self.now) c.next_command.result _ (c.next_command.ensures _ _ _ _ _ _ (kept-schedule _ _ c.requires.kept)) c.in-Some-next_command.is)
-
-pub answer-requires-clause-fits : goal.answer-requires-clause-fits
-answer-requires-clause-fits g c =
-    let due : held_back c.args.enc.now (moment_of c.args.self.now) ≡ None = sym c.held_back.ensures ∙ c.in_default.is in
-    commands-fit c.args.enc.now (moment_of c.args.self.now) c.requires.ready.few (c.requires.ready.there due)
-
-pub answer-requires-clause-next : goal.answer-requires-clause-next
-answer-requires-clause-next g c =
-    subst (CanCode (moment_of c.args.self.now)) (sym c.in-Ok.ensures.command)
-    (c.requires.ready.next _
-    (next-planned c.args.enc.now (moment_of c.args.self.now) c.next_command.result _ (c.next_command.ensures _ _ _ _ _ _ (kept-schedule _ _ c.requires.kept)) c.in-Some-next_command.is))
+-- ---- the next command
 
 pub unreachable-requires : goal.unreachable-requires
 unreachable-requires g c =
     let due : held_back c.args.enc.now (moment_of c.args.self.now) ≡ None = sym c.held_back.ensures ∙ c.in_default.is in
     next-there c.args.enc.now (moment_of c.args.self.now) c.next_command.result (c.next_command.ensures _ _ _ _ _ _ (kept-schedule _ _ c.requires.kept))
     (c.requires.ready.there due) c.in_default-next_command.is
+
+pub mean_scale-requires-clause-next : goal.mean_scale-requires-clause-next
+mean_scale-requires-clause-next g c =
+    c.requires.ready.next _
+    (next-planned c.args.enc.now (moment_of c.args.self.now) c.next_command.result _ (c.next_command.ensures _ _ _ _ _ _ (kept-schedule _ _ c.requires.kept)) c.in-Some-next_command.is)
+
+pub try_command-requires-clause-next : goal.try_command-requires-clause-next
+try_command-requires-clause-next g c =
+    c.requires.ready.next _
+    (next-planned c.args.enc.now (moment_of c.args.self.now) c.next_command.result _ (c.next_command.ensures _ _ _ _ _ _ (kept-schedule _ _ c.requires.kept)) c.in-Some-next_command.is)
+
+pub try_command-requires-clause-due : goal.try_command-requires-clause-due
+try_command-requires-clause-due g c = record {
+  scheduled = kept-schedule _ _ c.requires.kept;
+  known = c.requires.ready.there (sym c.held_back.ensures ∙ c.in_default.is);
+}
+
+pub try_command-requires-clause-room : goal.try_command-requires-clause-room
+try_command-requires-clause-room g c =
+    commands-fit c.args.enc.now (moment_of c.args.self.now) c.requires.ready.few (c.requires.ready.there (sym c.held_back.ensures ∙ c.in_default.is))
+
+pub returns-in-Err-clause-failed : goal.returns-in-Err-clause-failed
+returns-in-Err-clause-failed g c = λ detector.
+    let enc = c.args.enc.now in
+    let self = c.args.self.now in
+    let m = moment_of self in
+    let told = g.C.FrameCoder.told c.args.coder.now in
+    let command = c.in-Some-next_command.command in
+    let due : held_back enc m ≡ None = sym c.held_back.ensures ∙ c.in_default.is in
+    let planned = next-planned enc m c.next_command.result command (c.next_command.ensures _ _ _ _ _ _ (kept-schedule _ _ c.requires.kept)) c.in-Some-next_command.is in
+    coding-fails enc self.rate.tables m command [] (scale_list command c.in_ok-mean_scale.mean_scale) told told (g.C.FrameCoder.told c.try_command.new.coder) detector _ _ c.in-Err.fault
+    due planned (begin-none enc m command) tt c.in_ok-mean_scale.ensures.scaled refl (taken-none told) (counts-none told.fails_after) (coder-same told)
+    c.try_command.ensures.later.gives c.in-Err.ensures.failed
+
+-- ---- behind the tries
+
+pub code_command-requires-clause-next : goal.code_command-requires-clause-next
+code_command-requires-clause-next g c =
+    subst (λ (m : Moment g.row.T.Denot g.row.O.Denot). CanCode m c.in-Some-next_command.command) (sym (ap moment_of c.try_command.ensures.others))
+    (c.requires.ready.next _
+    (next-planned c.args.enc.now (moment_of c.args.self.now) c.next_command.result _ (c.next_command.ensures _ _ _ _ _ _ (kept-schedule _ _ c.requires.kept)) c.in-Some-next_command.is))
+
+pub code_command-requires-clause-due : goal.code_command-requires-clause-due
+code_command-requires-clause-due g c =
+    subst (λ (state : SessionState g.row.T.Denot g.row.O.Denot). IsDue c.args.enc.now (moment_of state) state.schedule) (sym c.try_command.ensures.others) (record {
+      scheduled = kept-schedule _ _ c.requires.kept;
+      known = c.requires.ready.there (sym c.held_back.ensures ∙ c.in_default.is);
+    })
+
+pub code_command-requires-clause-room : goal.code_command-requires-clause-room
+code_command-requires-clause-room g c =
+    subst (λ (state : SessionState g.row.T.Denot g.row.O.Denot). state.commands + 2 ≤ 4294967296) (sym c.try_command.ensures.others)
+    (commands-fit c.args.enc.now (moment_of c.args.self.now) c.requires.ready.few (c.requires.ready.there (sym c.held_back.ensures ∙ c.in_default.is)))
+
+pub code_command-requires-clause-tries : goal.code_command-requires-clause-tries
+code_command-requires-clause-tries g c =
+    tries-marked c.in-Some-next_command.command c.in-Ok.trials (tries-of c.args.enc.now (moment_of c.args.self.now) _ _ c.in-Ok.ensures.tried.tried)
+
+pub code_command-requires-clause-single : goal.code_command-requires-clause-single
+code_command-requires-clause-single g c =
+    tries-few c.in-Some-next_command.command c.in-Ok.trials (tries-of c.args.enc.now (moment_of c.args.self.now) _ _ c.in-Ok.ensures.tried.tried)
+
+-- ---- the command for good
+
+due : (g : given.Over) (c : goal.After-code_command g) → held_back c.args.enc.now (moment_of c.args.self.now) ≡ None
+due g c = sym c.held_back.ensures ∙ c.in_default.is
+
+-- the next command is the plan's
+planned : (g : given.Over) (c : goal.After-code_command g) → slice_get (plan_at c.args.enc.now (moment_of c.args.self.now)) c.args.self.now.commands ≡ Some c.in-Some-next_command.command
+planned g c = next-planned c.args.enc.now (moment_of c.args.self.now) c.next_command.result _ (c.next_command.ensures _ _ _ _ _ _ (kept-schedule _ _ c.requires.kept)) c.in-Some-next_command.is
+
+-- the moment of the tries is the receive's
+same : (g : given.Over) (c : goal.After-code_command g) → moment_of c.try_command.new.self ≡ moment_of c.args.self.now
+same g c = ap moment_of c.try_command.ensures.others
+
+-- the mean scale, as a number of 64 bits
+abbrev scale : (g : given.Over) (c : goal.After-code_command g) → ℤ
+scale g c = to_z w64 (of_z w64 c.in_ok-mean_scale.mean_scale)
+
+scaled : (g : given.Over) (c : goal.After-code_command g) →
+    AreScaled (frame_of (picture_at (moment_of c.args.self.now)) c.in-Some-next_command.command) (scale_list c.in-Some-next_command.command (scale g c))
+    (g.S.MeanScale.told c.args.scales.now) (g.S.MeanScale.told c.mean_scale.new.scales)
+scaled g c =
+    let same : to_z w64 (of_z w64 c.in_ok-mean_scale.mean_scale) ≡ c.in_ok-mean_scale.mean_scale = search rules in
+    subst (λ (value : ℤ). AreScaled (frame_of (picture_at (moment_of c.args.self.now)) c.in-Some-next_command.command) (scale_list c.in-Some-next_command.command value)
+    (g.S.MeanScale.told c.args.scales.now) (g.S.MeanScale.told c.mean_scale.new.scales)) (sym same) c.in_ok-mean_scale.ensures.scaled
+
+tried : (g : given.Over) (c : goal.After-code_command g) →
+    IsTried c.args.enc.now c.args.self.now.rate.tables (moment_of c.args.self.now) c.in-Some-next_command.command (scale g c) c.in-Ok.trials
+    (g.C.FrameCoder.told c.args.coder.now) (g.C.FrameCoder.told c.try_command.new.coder)
+tried g c = c.in-Ok.ensures.tried
+
+coded : (g : given.Over) (c : goal.After-code_command g) → IfOk c.code_command.result (λ turn.
+    IsCodedTurn c.args.enc.now c.args.self.now.rate.tables (moment_of c.args.self.now) c.in-Some-next_command.command (scale g c) c.in-Ok.trials turn
+    (g.C.FrameCoder.told c.try_command.new.coder) (g.C.FrameCoder.told c.code_command.new.coder))
+coded g c =
+    subst₂ (λ (m : Moment g.row.T.Denot g.row.O.Denot) (tables : Tables). IfOk c.code_command.result (λ turn.
+    IsCodedTurn c.args.enc.now tables m c.in-Some-next_command.command (scale g c) c.in-Ok.trials turn
+    (g.C.FrameCoder.told c.try_command.new.coder) (g.C.FrameCoder.told c.code_command.new.coder)))
+    (same g c) c.try_command.ensures.tables c.code_command.ensures.coded
+
+pub returns-clause-turn : goal.returns-clause-turn
+returns-clause-turn g c =
+    IfOk-weaker c.code_command.result _ _
+    (λ turn is. turn-codes c.args.enc.now (moment_of c.args.self.now) turn (due g c) (turn-next _ _ _ _ _ _ turn _ _ _ (tried g c) is (planned g c)))
+    (coded g c)
+
+pub returns-clause-quantised : goal.returns-clause-quantised
+returns-clause-quantised g c = IfOk-weaker c.code_command.result _ _ (λ turn is. turn-quantised _ _ _ _ _ _ turn _ _ _ (tried g c) is) (coded g c)
+
+pub returns-clause-taken : goal.returns-clause-taken
+returns-clause-taken g c = IfOk-weaker c.code_command.result _ _ (λ turn is. turn-taken _ _ _ _ _ _ turn _ _ _ (tried g c) is) (coded g c)
+
+pub returns-clause-counted : goal.returns-clause-counted
+returns-clause-counted g c = IfOk-weaker c.code_command.result _ _ (λ turn is. turn-counted _ _ _ _ _ _ turn _ _ _ (tried g c) is) (coded g c)
+
+pub returns-clause-scaled : goal.returns-clause-scaled
+returns-clause-scaled g c = IfOk-weaker c.code_command.result _ _ (λ turn is. turn-scaled _ _ _ _ _ _ turn _ _ _ (tried g c) is _ _ (scaled g c)) (coded g c)
+
+pub returns-clause-later : goal.returns-clause-later
+returns-clause-later g c = coder-then _ _ _ c.try_command.ensures.later c.code_command.ensures.later
+
+pub returns-clause-failed : goal.returns-clause-failed
+returns-clause-failed g c =
+    let enc = c.args.enc.now in
+    let self = c.args.self.now in
+    let m = moment_of self in
+    let command = c.in-Some-next_command.command in
+    let is = tried g c in
+    let told = g.C.FrameCoder.told c.args.coder.now in
+    let between = g.C.FrameCoder.told c.try_command.new.coder in
+    let now = g.C.FrameCoder.told c.code_command.new.coder in
+    MatchResult-weaker c.code_command.result c.code_command.ensures.failed (λ turn _. tt)
+    (λ fault fails detector.
+    coding-fails enc self.rate.tables m command c.in-Ok.trials (scale_list command (scale g c)) told between now detector _ _ fault (due g c) (planned g c)
+    ([], subst (AreTrials enc m command) (sym (append-nil c.in-Ok.trials)) is.tried) is.selected (scaled g c)
+    (tries-scales command c.in-Ok.trials (scale g c) (tries-of enc m command c.in-Ok.trials is.tried) is.alike)
+    is.taken is.counted c.try_command.ensures.later c.code_command.ensures.later.gives
+    (subst (λ (state : SessionState g.row.T.Denot g.row.O.Denot). FailsCoding state.commands between now fault) c.try_command.ensures.others fails))
+
+pub returns-clause-kept : goal.returns-clause-kept
+returns-clause-kept g c =
+    let enc = c.args.enc.now in
+    let self = c.args.self.now in
+    let after = c.code_command.new.self in
+    let result = c.code_command.result in
+    kept-answered enc self after c.in-Some-next_command.command (scale g c) c.in-Ok.trials result _ _ _ (tried g c) (coded g c) c.requires.kept
+    (c.code_command.ensures.last_key ∙ ap (λ (state : SessionState g.row.T.Denot g.row.O.Denot). state.last_key) c.try_command.ensures.others)
+    (subst (λ (m : Moment g.row.T.Denot g.row.O.Denot). IfOk result (λ turn. moment_of after ≡ after_receive m turn.log turn.reply)) (same g c) c.code_command.ensures.after)
+    (subst (λ (state : SessionState g.row.T.Denot g.row.O.Denot). OnOk result (IsAdvanced state.schedule after.schedule)) c.try_command.ensures.others c.code_command.ensures.schedule)
+    (c.requires.ready.there (due g c))
+    (subst₂ (λ (m : Moment g.row.T.Denot g.row.O.Denot) (tables : Tables). IfOk result (λ turn. IsRatedBehind enc tables m turn.log after.rate))
+    (same g c) c.try_command.ensures.tables c.code_command.ensures.rated)
+    (c.code_command.ensures.tables ∙ c.try_command.ensures.tables)

@@ -10,7 +10,7 @@ use Rattle.session_core.specs.Moments.{Moment, Waiting}
 use Rattle.session_core.specs.States.{moment_of, waiting_of, KeepsLastKey}
 use Rattle.session_core.specs.Turns.{accepted_of}
 use Rattle.session_core.proofs.Deciding.{Made, asked-none, made-of, made-decides, made-all, made-asked}
-use Rattle.session_core.proofs.Scheduling.{first-scheduled, further-scheduled, is-kept, kept-last_key, kept-schedule, sent-scheduled}
+use Rattle.session_core.proofs.Scheduling.{first-scheduled, further-scheduled, is-kept, kept-last_key, kept-rated, kept-schedule, sent-scheduled, still-rated}
 use Rattle.session_core.proofs.StateLemmas.{decided-zero}
 use Rattle.session_core.proofs.state.SessionState.send.Given as given
 use Rattle.session_core.proofs.state.SessionState.send.Goals as goal
@@ -102,9 +102,17 @@ returns-clause-kept g c =
       | then-number-eq0+in_ok-note_key w ↦ subst Counts (sym w.self-is) here
       | else-number-eq0 w ↦ subst Counts (sym w.self-is) here
     ] in
+    let Same : SessionState g.row.T.Denot g.row.O.Denot → Type 0 = λ state. (state.log ≡ self.log) × (state.commands ≡ self.commands) × (state.rate ≡ self.rate) in
+    let same : Same c.if-number-eq0.self = elim c.if-number-eq0.branch [
+      | then-number-eq0+in_ok-note_key w ↦ subst Same (sym w.self-is) (refl, refl, refl)
+      | else-number-eq0 w ↦ subst Same (sym w.self-is) (refl, refl, refl)
+    ] in
     is-kept c.args.enc.now _ c.in_ok-decide.ensures.decided.last_key
     (sent-scheduled c.args.enc.now _ (record c.if-number-eq0.self { accepted = self.accepted + 1 }) c.decide.new.self _ _ _ _ self.accepted
     c.in_ok-decide.ensures.decided counts.0 (λ e. absurd (omega (arith, e))) (joined g c) c.extend.new.self counts.1 (omega arith) c.in_ok-extend.ensures.extended)
+    (still-rated c.args.enc.now self (record c.decide.new.self { schedule = c.extend.new.self }) (kept-rated _ _ c.requires.kept)
+    (ap (λ state. state.log) c.in_ok-decide.ensures.decided.others ∙ same.0) (ap (λ state. state.commands) c.in_ok-decide.ensures.decided.others ∙ same.1)
+    (ap (λ state. state.rate) c.in_ok-decide.ensures.decided.others ∙ same.2))
 
 pub decide-requires-clause-last_key : goal.decide-requires-clause-last_key
 decide-requires-clause-last_key g c =

@@ -1,5 +1,5 @@
 use Rattle.session_script.proofs.Answered.{read_outcome}
-use Rattle.session_script.proofs.run.carry_out.Goals as goal
+use Rattle.session_script.proofs.run.carry_out_source.Goals as goal
 
 pub returns-in-Ok-clause-cause : goal.returns-in-Ok-clause-cause
 returns-in-Ok-clause-cause g c =

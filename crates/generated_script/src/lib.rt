@@ -1,0 +1,9 @@
+//! Scripts that a number makes: a session with a bitrate, whose scene cuts and frame sizes are pseudorandom.
+#![tactic(auto)]
+
+mod numbers;
+mod script;
+#[cfg(test)]
+mod tests;
+
+pub use script::{FRAMES, RECEIVES, generated_script};
