@@ -1,7 +1,15 @@
 mod Counts
+mod FaultPlans
 mod Handed
+mod JobRuns
 mod Moves
 mod NewRows
 mod PacketOrder
+mod Receiving
+mod SameCalls
+mod SameEntries
+mod SameJobs
+mod SameRuns
+mod Sending
 mod Runs
 mod Splitting

@@ -1,10 +1,11 @@
 //! What holds of every list of steps from the opening on, each law as the contract of a function that does nothing;
-//! `specs/CoreRuns` and `specs/Packets` spell them out.
+//! `specs/CoreRuns`, `specs/Packets` and, of one job, `specs/JobLaws` spell them out.
 
+ghost use Rattle.gop_board.specs.JobLaws.{FaultsAreOnThePlan, PacketsAreDetermined};
 ghost use Rattle.gop_board.specs.CoreRuns.{JobsAreCollectedInOrder, JobsStandAtOnePlace};
 ghost use Rattle.gop_board.specs.Packets.{CollectedPacketsAreInOrder};
 
-use crate::Run;
+use crate::{MakeSession, Run};
 
 /// Whatever steps are tried, each submitted job stands at exactly one place: queued, held by one worker, deposited or
 /// collected. No other number stands anywhere, and no worker holds two jobs.
@@ -21,4 +22,16 @@ pub fn jobs_are_collected_in_order()
 /// that has none, begin the packets of all jobs in their order, both numbered anew.
 pub fn collected_packets_are_in_order<T, C, N: Run<T, C>>()
     ensures { CollectedPacketsAreInOrder N.jobs N.belongs }
+{}
+
+/// A job has one list of packets, up to the handles on their pictures, where its maker tells what its coder gives and its mean
+/// scales: all packets that belong to the job are the same.
+pub fn packets_of_a_job_are_determined<T, M: MakeSession<T>>()
+    ensures { PacketsAreDetermined M.told }
+{}
+
+/// What a job's coder took before it failed are, tries aside, the first commands of the plan of the job's first frames, as many
+/// as were accepted by then, where the first alone is decided to be a key.
+pub fn faults_are_on_the_plan<T, M: MakeSession<T>>()
+    ensures { FaultsAreOnThePlan M.told }
 {}
