@@ -15,14 +15,16 @@ use Rattle.pass_stats.specs.declared.metrics.RCFrameMetrics.{RCFrameMetrics}
 use Rattle.pass_data.specs.Emitted.{with_waiting}
 use Rattle.pass_data.specs.Given.{coded}
 use Rattle.reservoir.specs.Levels.{between, bits_per_tu_of, reservoir_delay_of, reservoir_most, reservoir_target}
-use Rattle.reservoir.specs.Moves.{LAST_COUNT, FAR}
+use Rattle.reservoir.specs.Moves.{LAST_COUNT}
 use Rattle.ratecontrol.specs.Rate.{Rate}
 use Rattle.ratecontrol.specs.Start.{start}
 use Rattle.ratecontrol.specs.Update.{update, after, after_with_data, after_frame, after_show, with_subtype, with_frame_data, frame_data, charged, estimate}
-use Rattle.ratecontrol.specs.Log.{AllFrames, HasRoom, HasBiasRoom, after_all, spent, is_real, is_of, subtype_after_all, frames_after_all, reservoir_after_all, bias_after_all, coded_after_all, shown_again_after_all, shows_after_all}
-use Rattle.ratecontrol.specs.Kept.{kept, with_log, subtypes_after_all, real_of, is_trial_due, IsSessionStart, IsSessionEntry, IsSessionLog}
+use Rattle.ratecontrol.specs.Log.{AllFrames, HasRoom, HasBiasRoom, after_all, spent, is_coded, is_show, subtype_after_all, reservoir_after_all}
+use Rattle.ratecontrol.specs.Kept.{kept, with_log, subtypes_after_all, real_of, is_trial_due, with_passes_of, handed_on, IsSessionStart, IsSessionEntry, IsSessionLog}
+use Rattle.ratecontrol.specs.Passes.{commands, over_the_file, over_the_window, set_up, set_up_by, with_exponents}
+use Rattle.pass_data.specs.declared.given.Header.{Header}
 use Rattle.ratecontrol.proofs.Four.{is_four}
-use Rattle.ratecontrol.proofs.LogLaws.{settled, updated, subtype_of_own, passes_lt}
+use Rattle.ratecontrol.proofs.LogLaws.{settled, subtype_of_own, passes_lt}
 use Rattle.ratecontrol.proofs.ReservoirLaws.{by_trial, reservoir_is_ledger}
 use Rattle.ratecontrol.proofs.BiasLaws.{bias_is_sum, one_more}
 use Rattle.ratecontrol.proofs.CountLaws.{coded_counted, shown_again_counted, shows_counted, frames_counted}
@@ -163,6 +165,10 @@ pub kept_bitrate : (rate : Rate) (es : List Entry) → (kept rate es).bitrate �
 unfolding kept
 kept_bitrate rate es = elim (int_lt (pos 0) rate.bitrate) as (λ b. (cond b (with_log rate es) rate).bitrate ≡ rate.bitrate) [ true ↦ refl | false ↦ refl ]
 
+pub kept_most : (rate : Rate) (es : List Entry) → (kept rate es).most ≡ rate.most
+unfolding kept
+kept_most rate es = elim (int_lt (pos 0) rate.bitrate) as (λ b. (cond b (with_log rate es) rate).most ≡ rate.most) [ true ↦ refl | false ↦ refl ]
+
 pub kept_reservoir : (rate : Rate) (es : List Entry) → int_lt (pos 0) rate.bitrate ≡ true → (kept rate es).reservoir ≡ reservoir_after_all rate es
 unfolding kept
 kept_reservoir rate es on = ap (λ b. (cond b (with_log rate es) rate).reservoir) on
@@ -248,10 +254,9 @@ kept_at rate es (suc (suc zero)) below = refl
 kept_at rate es (suc (suc (suc zero))) below = refl
 kept_at rate es (suc (suc (suc (suc f)))) below = absurd (omega arith)
 
-no_frames : (rate : Rate) (f : ℕ) (es : List Entry) → f < 4 → IsSessionStart rate
+no_frames : (rate : Rate) (f : ℕ) (es : List Entry) → f < 4 → (subtype_at rate.subtypes f).frames ≡ pos 0
     → int_eq (subtype_at (subtypes_after_all rate es) f).frames (pos 0) ≡ (length (real_of f es) == 0)
-no_frames rate f es below begun =
-    let none : (subtype_at rate.subtypes f).frames ≡ pos 0 = begun.frames f in
+no_frames rate f es below none =
     let counted = frames_counted rate f es (at_most (subtype_at rate.subtypes f).frames LAST_I32 none (omega (arith, ints))) in
     ap (λ (s : SubtypeRate). int_eq s.frames (pos 0)) (kept_at rate es f below)
     ∙ (ap (λ n. int_eq n (pos 0)) counted
@@ -261,16 +266,20 @@ no_frames rate f es below begun =
 abbrev needs_trial : ℕ → Rate → Bool
 needs_trial f r = int_lt (pos 0) r.bitrate && int_eq (subtype_at r.subtypes f).frames (pos 0)
 
-pub trial_is_due : (rate : Rate) (f : ℕ) (es : List Entry) → f < 4 → IsSessionStart rate
+pub trial_is_due_from : (rate : Rate) (f : ℕ) (es : List Entry) → f < 4 → (subtype_at rate.subtypes f).frames ≡ pos 0
     → (int_lt (pos 0) (kept rate es).bitrate && int_eq (subtype_at (kept rate es).subtypes f).frames (pos 0)) ≡ is_trial_due rate f es
 unfolding kept
-trial_is_due rate f es below begun =
+trial_is_due_from rate f es below none =
     by_trial (int_lt (pos 0) rate.bitrate)
     (λ on.
-    ap (λ b. needs_trial f (cond b (with_log rate es) rate)) on ∙ ap (λ b. int_lt (pos 0) rate.bitrate && b) (no_frames rate f es below begun))
+    ap (λ b. needs_trial f (cond b (with_log rate es) rate)) on ∙ ap (λ b. int_lt (pos 0) rate.bitrate && b) (no_frames rate f es below none))
     (λ off.
     ap (λ b. needs_trial f (cond b (with_log rate es) rate)) off
     ∙ (ap (λ b. b && int_eq (subtype_at rate.subtypes f).frames (pos 0)) off ∙ sym (ap (λ b. b && (length (real_of f es) == 0)) off)))
+
+pub trial_is_due : (rate : Rate) (f : ℕ) (es : List Entry) → f < 4 → IsSessionStart rate
+    → (int_lt (pos 0) (kept rate es).bitrate && int_eq (subtype_at (kept rate es).subtypes f).frames (pos 0)) ≡ is_trial_due rate f es
+trial_is_due rate f es below begun = trial_is_due_from rate f es below (begun.frames f)
 
 -- ---- the start of a session
 
@@ -326,7 +335,7 @@ session_starts width height num den bitrate greatest least interval delay h =
       bits_per_tu = omega (arith, ints);
       holds = half.0;
       full = half.1;
-      most = most.1;
+      most = (let high = most.1 in omega (arith, ints));
       bias = refl;
       coded = refl;
       shown_again = refl;
@@ -334,3 +343,155 @@ session_starts width height num den bitrate greatest least interval delay h =
       four = four_at_start (int_div (width *ℤ height) (bits_per_tu_of bitrate num den));
       frames = none_at_start (int_div (width *ℤ height) (bits_per_tu_of bitrate num den));
     }
+
+-- ---- the passes, beside the log
+
+frame_apart : (e : Entry) (p r : Rate) → after_frame e (with_passes_of p r) ≡ with_passes_of p (after_frame e r)
+unfolding after_frame
+frame_apart e p r = elim e.trial as (λ b. cond b (with_subtype e (with_passes_of p r)) (charged (estimate r e) e.bits e.shown (with_subtype e (with_passes_of p r)))
+    ≡ with_passes_of p (cond b (with_subtype e r) (charged (estimate r e) e.bits e.shown (with_subtype e r)))) [
+      | true ↦ refl
+      | false ↦ refl
+    ]
+
+show_apart : (e : Entry) (p r : Rate) → after_show e (with_passes_of p r) ≡ with_passes_of p (after_show e r)
+unfolding after_show
+show_apart e p r = refl
+
+after_apart : (e : Entry) (p r : Rate) → after e (with_passes_of p r) ≡ with_passes_of p (after e r)
+after_apart e p r = elim (nat_lt e.subtype 4) as (λ b. cond b (after_frame e (with_passes_of p r)) (after_show e (with_passes_of p r))
+    ≡ with_passes_of p (cond b (after_frame e r) (after_show e r))) [
+      | true ↦ frame_apart e p r
+      | false ↦ show_apart e p r
+    ]
+
+-- an entry moves the passes by what the state before it tells of the entry, and the rest as in one pass
+pub passes_apart : (e : Entry) (p r : Rate) → update e (with_passes_of p r) ≡ with_passes_of (handed_on e r p) (update e r)
+passes_apart e p r = elim (int_lt (pos 0) r.bitrate) as (λ b. cond b (after_with_data e (with_passes_of p r)) (with_passes_of p r)
+    ≡ with_passes_of (cond b (with_frame_data (frame_data e r) e.trial p) p) (cond b (after_with_data e r) r)) [
+      | true ↦ ap (λ (x : Rate). with_frame_data (frame_data e r) e.trial x) (after_apart e p r)
+      | false ↦ refl
+    ]
+
+-- ---- a start that a summary set up
+
+-- nothing is coded
+pub record IsFresh (r : Rate) : Type 0 where
+  pub bits_per_tu : pos 0 ≤ℤ r.bits_per_tu
+  pub holds : pos 0 ≤ℤ r.most → pos 0 ≤ℤ r.reservoir
+  pub full : pos 0 ≤ℤ r.most → r.reservoir ≤ℤ r.most
+  pub bias : r.bias ≡ pos 0
+  pub coded : r.coded ≡ pos 0
+  pub shown_again : r.shown_again ≡ pos 0
+  pub shows : r.shows ≡ pos 0
+  pub four : length r.subtypes ≡ 4
+  pub frames : (subtype : ℕ) → (subtype_at r.subtypes subtype).frames ≡ pos 0
+
+exponents_fresh : (exp : List ℕ) (subtypes : List SubtypeRate) (f : ℕ) → ((subtype : ℕ) → (subtype_at subtypes subtype).frames ≡ pos 0)
+    → (subtype_at (with_exponents exp subtypes) f).frames ≡ pos 0
+exponents_fresh exp subtypes zero none = none 0
+exponents_fresh exp subtypes (suc zero) none = none 1
+exponents_fresh exp subtypes (suc (suc zero)) none = none 2
+exponents_fresh exp subtypes (suc (suc (suc zero))) none = none 3
+exponents_fresh exp subtypes (suc (suc (suc (suc f)))) none = refl
+
+levels_fresh : (b : Bool) (h : Header) (p q r : Rate) → IsSessionStart r
+    → IsFresh (with_passes_of q (record (cond b (over_the_window h (with_passes_of p r)) (over_the_file h (with_passes_of p r))) { subtypes = with_exponents h.exp r.subtypes }))
+levels_fresh true h p q r begun = record {
+  bits_per_tu = begun.bits_per_tu;
+  holds = λ _. begun.holds;
+  full = λ _. begun.full;
+  bias = begun.bias;
+  coded = begun.coded;
+  shown_again = begun.shown_again;
+  shows = begun.shows;
+  four = refl;
+  frames = λ f. exponents_fresh h.exp r.subtypes f begun.frames;
+}
+levels_fresh false h p q r begun = record {
+  bits_per_tu = begun.bits_per_tu;
+  holds = λ low. (half_of_most (reservoir_most r.bits_per_tu h.ntus) low).0;
+  full = λ low. (half_of_most (reservoir_most r.bits_per_tu h.ntus) low).1;
+  bias = begun.bias;
+  coded = begun.coded;
+  shown_again = begun.shown_again;
+  shows = begun.shows;
+  four = refl;
+  frames = λ f. exponents_fresh h.exp r.subtypes f begun.frames;
+}
+
+pub set_up_fresh : (header : Option Header) (p q r : Rate) → IsSessionStart r → IsFresh (with_passes_of q (set_up_by header (with_passes_of p r)))
+unfolding set_up
+set_up_fresh None p q r begun = record {
+  bits_per_tu = begun.bits_per_tu;
+  holds = λ _. begun.holds;
+  full = λ _. begun.full;
+  bias = begun.bias;
+  coded = begun.coded;
+  shown_again = begun.shown_again;
+  shows = begun.shows;
+  four = begun.four;
+  frames = begun.frames;
+}
+set_up_fresh (Some h) p q r begun = levels_fresh p.given.is_finite h p q r begun
+
+-- it is a session's start where its reservoir is one that the code can keep
+pub set_up_starts : (header : Option Header) (p q r : Rate) → IsSessionStart r → q.first ≡ false → q.second ≡ false
+    → pos 0 ≤ℤ (set_up_by header (with_passes_of p r)).most → (set_up_by header (with_passes_of p r)).most ≤ℤ pos (2 ^ 78)
+    → IsSessionStart (with_passes_of q (set_up_by header (with_passes_of p r)))
+set_up_starts header p q r begun not_first not_second low high =
+    let fresh = set_up_fresh header p q r begun in
+    record {
+      not_first = not_first;
+      not_second = not_second;
+      bits_per_tu = fresh.bits_per_tu;
+      holds = fresh.holds low;
+      full = fresh.full low;
+      most = high;
+      bias = fresh.bias;
+      coded = fresh.coded;
+      shown_again = fresh.shown_again;
+      shows = fresh.shows;
+      four = fresh.four;
+      frames = fresh.frames;
+    }
+
+nothing_counted : (n last : ℤ) → n ≡ pos 0 → pos 0 ≤ℤ last → int_min (n +ℤ pos 0) last ≡ n
+nothing_counted n last is h = rw is (omega (arith, ints, clamps))
+
+nothing_more : (z : ℤ) → (z +ℤ pos 0) ≡ z
+nothing_more z = omega (arith, ints)
+
+no_log : (r : Rate) → IsFresh r → with_log r [] ≡ r
+no_log r fresh =
+    rw (
+      nothing_more r.reservoir,
+      nothing_more r.bias,
+      nothing_counted r.coded LAST_COUNT fresh.coded (omega (arith, ints)),
+      nothing_counted r.shown_again LAST_COUNT fresh.shown_again (omega (arith, ints)),
+      nothing_counted r.shows LAST_I32 fresh.shows (omega (arith, ints)),
+      sym (is_four no_subtype r.subtypes fresh.four refl refl refl refl),
+    ) refl
+
+-- before a log it is what is kept
+pub kept_of_fresh : (r : Rate) → IsFresh r → kept r [] ≡ r
+unfolding kept
+kept_of_fresh r fresh = elim (int_lt (pos 0) r.bitrate) as (λ b. cond b (with_log r []) r ≡ r) [ true ↦ no_log r fresh | false ↦ refl ]
+
+-- ---- before anything is coded
+
+none_where_none : (n : ℕ) (z : ℤ) → pos 0 ≤ℤ z → (int_min (pos 0 +ℤ pos n) LAST_COUNT +ℤ z) ≡ pos 0 → n ≡ 0
+none_where_none n z low is = omega (arith, ints, clamps)
+
+none_behind : (n m : ℕ) (a b : ℤ) → a ≡ pos 0 → b ≡ pos 0 → (int_min (a +ℤ pos n) LAST_COUNT +ℤ int_min (b +ℤ pos m) LAST_COUNT) ≡ pos 0 → (n ≡ 0) × (m ≡ 0)
+none_behind n m a b none also is =
+    let sum : (int_min (pos 0 +ℤ pos n) LAST_COUNT +ℤ int_min (pos 0 +ℤ pos m) LAST_COUNT) ≡ pos 0 = rw (none, also) at is in
+    (omega (arith, ints, clamps), omega (arith, ints, clamps))
+
+-- without commands no coded frame with bits, and no show, is in the log
+pub no_commands : (r : Rate) (es : List Entry) → int_lt (pos 0) r.bitrate ≡ true → IsFresh r → commands (kept r es) ≡ pos 0
+    → (length (filter is_coded es) ≡ 0) × (length (filter is_show es) ≡ 0)
+unfolding kept
+no_commands r es on fresh none =
+    none_behind (length (filter is_coded es)) (length (filter is_show es)) r.coded r.shown_again fresh.coded fresh.shown_again
+    (sym (ap (λ b. commands (cond b (with_log r es) r)) on) ∙ none)

@@ -2,6 +2,7 @@ pub mod BiasLaws
 pub mod CountLaws
 pub mod Exponentials
 pub mod Four
+pub mod GivenLaws
 pub mod HeaderLaws
 pub mod KeptLaws
 pub mod LedgerLaws

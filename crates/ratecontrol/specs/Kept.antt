@@ -1,9 +1,10 @@
 -- What a session keeps after the entries of its log, in one record.
-use Rattle.std.specs.Prelude.{◌≡◌, ℕ, ◌*◌, ◌<◌, ◌≤◌, ◌^◌, ◌==◌, Bool, true, false, ◌&&◌, List, [], ◌∷◌, filter, length, ℤ, pos, ◌≤ℤ◌, int_lt, if◌then◌else◌}
+use Rattle.std.specs.Prelude.{◌≡◌, ℕ, ◌*◌, ◌<◌, ◌≤◌, ◌^◌, ◌==◌, Bool, true, false, ◌&&◌, List, [], ◌∷◌, filter, length, pos, ◌≤ℤ◌, int_lt, if◌then◌else◌}
 use Rattle.std.specs.List.{All}
 use Rattle.rate_model.specs.Measure.{Entry}
 use Rattle.rate_model.specs.Subtype.{SubtypeRate, subtype_at}
 use Rattle.ratecontrol.specs.Rate.{Rate}
+use Rattle.ratecontrol.specs.Update.{frame_data, with_frame_data}
 use Rattle.ratecontrol.specs.Log.{is_real, is_of, reservoir_after_all, bias_after_all, coded_after_all, shown_again_after_all, shows_after_all, subtype_after_all}
 
 abbrev pub subtypes_after_all : Rate → List Entry → List SubtypeRate
@@ -34,16 +35,33 @@ real_of subtype entries = filter is_real (filter (is_of subtype) entries)
 abbrev pub is_trial_due : Rate → ℕ → List Entry → Bool
 is_trial_due start subtype entries = int_lt (pos 0) start.bitrate && (length (real_of subtype entries) == 0)
 
+-- ---- what the passes hand on, beside it
+
+-- a state with the passes of another one
+abbrev pub with_passes_of : Rate → Rate → Rate
+with_passes_of passes rate = record rate {
+  first = passes.first;
+  second = passes.second;
+  first_base = passes.first_base;
+  given = passes.given;
+  emitted = passes.emitted;
+}
+
+-- the passes after an entry, where this state was kept before it: without a bitrate they stay
+abbrev pub handed_on : Entry → Rate → Rate → Rate
+handed_on e rate passes =
+    if int_lt (pos 0) rate.bitrate then with_frame_data (frame_data e rate) e.trial passes else passes
+
 -- ---- what a session brings
 
--- one pass in which nothing is coded yet, over a reservoir of at most 2^64 bits
+-- one pass in which nothing is coded yet, over a reservoir of at most 2^78 bits
 pub record IsSessionStart (start : Rate) : Type 0 where
   pub not_first : start.first ≡ false
   pub not_second : start.second ≡ false
   pub bits_per_tu : pos 0 ≤ℤ start.bits_per_tu
   pub holds : pos 0 ≤ℤ start.reservoir
   pub full : start.reservoir ≤ℤ start.most
-  pub most : start.most ≤ℤ pos (2 ^ 64)
+  pub most : start.most ≤ℤ pos (2 ^ 78)
   pub bias : start.bias ≡ pos 0
   pub coded : start.coded ≡ pos 0
   pub shown_again : start.shown_again ≡ pos 0

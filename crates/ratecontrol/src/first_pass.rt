@@ -58,7 +58,8 @@ impl RCState {
         self.emitted.emit_summary(counts, exponents)
     }
 
-    fn gives_frame(&self) -> bool
+    /// Whether `twopass_out` would meet a frame's data that waits: then it gives that, or nothing, and no summary.
+    pub fn gives_frame(&self) -> bool
         ensures { result ≡ gives_frame_of self.now }
     {
         self.is_controlled() && self.emitted.is_waiting()

@@ -6,13 +6,14 @@
 ghost use Rattle.std.specs.Prelude.{◌≡◌, ℕ, ◌*◌, ◌<◌, ◌^◌, ◌&&◌, Bool, List, [], ◌∷◌, ◌++◌, length, Option, IfSome, int_lt, true, false, ℤ, pos, ◌≤ℤ◌, MatchResult};
 ghost use Rattle.std.specs.Ordering.{int_eq};
 ghost use Rattle.rate_model.specs.Subtype.{subtype_at};
+ghost use Rattle.pass_data.specs.declared.given.Header.{Header};
 ghost use Rattle.ratecontrol.specs.Rate.{Rate};
 ghost use Rattle.rate_model.specs.Measure.{Entry, entry, LAST_I32};
 ghost use Rattle.reservoir.specs.Moves.{LAST_COUNT};
-ghost use Rattle.ratecontrol.specs.Passes.{HasCounts, IsReadBack, after_summary, counts_coded};
+ghost use Rattle.ratecontrol.specs.Passes.{HasCounts, IsReadBack, after_summary, counts_coded, set_up_by};
 ghost use Rattle.ratecontrol.specs.Start.{start};
 ghost use Rattle.ratecontrol.specs.Update.{update};
-ghost use Rattle.ratecontrol.specs.Kept.{kept, is_trial_due, IsSessionStart, IsSessionEntry, IsSessionLog};
+ghost use Rattle.ratecontrol.specs.Kept.{kept, is_trial_due, handed_on, with_passes_of, IsSessionStart, IsSessionEntry, IsSessionLog};
 ghost use Rattle.ratecontrol.specs.Log.{AllFrames, HasRoom, HasBiasRoom, after_all, bias_after_all, reservoir_after_all, subtype_after_all, coded_after_all, frames_after_all};
 
 use crate::state::RCState;
@@ -106,6 +107,23 @@ pub fn a_session_starts_with_a_new_state()
         (delay : Option ℤ)
         → IfSome delay (λ d. (pos 12 ≤ℤ d) × (d ≤ℤ pos (2 ^ 17)))
         → IsSessionStart (start width height num den bitrate greatest least interval delay) }
+{}
+
+/// What the passes hand on is kept beside the rest: an entry moves both apart from each other, so the state of a session with
+/// passes is the one of a single pass with these passes put in.
+#[tactic(auto, using(crate::proofs::KeptLaws::passes_apart))]
+pub fn the_passes_stand_beside_the_log()
+    ensures { (e : Entry) (passes rate : Rate) → update e (with_passes_of passes rate)
+        ≡ with_passes_of (handed_on e rate passes) (update e rate) }
+{}
+
+/// A start that a summary set up is the start of a session, where its reservoir holds as many bits as the state can keep.
+pub fn a_summary_sets_up_a_start()
+    ensures { (header : Option Header) (passes none rate : Rate) → IsSessionStart rate
+        → none.first ≡ false → none.second ≡ false
+        → pos 0 ≤ℤ (set_up_by header (with_passes_of passes rate)).most
+        → (set_up_by header (with_passes_of passes rate)).most ≤ℤ pos (2 ^ 78)
+        → IsSessionStart (with_passes_of none (set_up_by header (with_passes_of passes rate))) }
 {}
 
 /// A trial is due, as [`RCState::needs_trial_encode`](crate::RCState::needs_trial_encode) tells it, exactly where there is a

@@ -3,7 +3,7 @@
 //!
 //! All logarithms are binary and in Q57 where nothing else is said. Memory is taken by the call alone that begins a second pass.
 //!
-//! Lemmas of crates above cite `specs/` and `proofs/KeptLaws`, and nothing else of this crate's proofs.
+//! Lemmas of crates above cite `specs/`, `proofs/KeptLaws` and `proofs/GivenLaws`, and nothing else of this crate's proofs.
 #![tactic(auto)]
 
 mod ahead;

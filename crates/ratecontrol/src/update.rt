@@ -225,8 +225,11 @@ impl RCState {
         ensures state { self.new ≡ update (entry bits fti show_frame log_target_q trial) self.old }
         ensures dropped { result
             ≡ is_dropped (entry bits fti show_frame log_target_q trial) self.old }
+        ensures most_low { pos 1 ≤ℤ self.old.most }
+        ensures most_high { self.old.most ≤ℤ pos (2 ^ 78) }
     {
         let _ = droppable;
+        let _ = &self.most;
         let dropped = self.drops(bits, fti, show_frame, log_target_q, trial);
         self.take_if_controlled(bits, fti, show_frame, log_target_q, trial);
         dropped

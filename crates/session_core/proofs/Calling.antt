@@ -9,7 +9,7 @@ use Rattle.av1_settings.specs.Checks.{IsValid}
 use Rattle.pyramid.specs.declared.command.Command.{Command}
 use Rattle.quantizers.specs.Tables.{Tables}
 use Rattle.ratecontrol.specs.Rate.{Rate}
-use Rattle.session_log.specs.Selection.{rate_after}
+use Rattle.session_log.specs.Passes.{no_passes, rate_at}
 use Rattle.session_core.specs.declared.call.Call.{Call}
 use Rattle.session_core.specs.declared.call.Call.TheVariants.{Send, Flush, Receive}
 use Rattle.session_core.specs.declared.call.FrameParameters.{FrameParameters}
@@ -56,7 +56,7 @@ held-frames enc state failure count held none size =
 
 -- the state of the rate controller is that of the moment's log
 pub held-rate : {T O : Type 0} (enc : EncoderConfig) (state : SessionState T O) (failure : Option SessionFault) (now : Rate) → IsHeld enc state failure →
-    now ≡ state.rate.state → failure ≡ None → now ≡ rate_after enc (moment_of state).log
+    now ≡ state.rate.state → failure ≡ None → now ≡ rate_at enc no_passes (moment_of state).log
 held-rate enc state failure now held is none = is ∙ (kept-rated enc state (held.kept none)).keeps.state
 
 -- one more call

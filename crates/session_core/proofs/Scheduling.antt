@@ -18,6 +18,7 @@ use Rattle.pyramid.specs.Settings.{numbers_of}
 use Rattle.session_core.specs.declared.state.SessionState.{SessionState}
 use Rattle.session_core.specs.declared.transcript.Decision.{Decision}
 use Rattle.http_server.specs.declared.log.Log.{Log}
+use Rattle.session_log.specs.Passes.{no_passes}
 use Rattle.session_log.specs.Keeps.{IsSized, Keeps}
 use Rattle.session_log.specs.declared.entry.LogEntry.{LogEntry}
 use Rattle.session_core.specs.declared.transcript.Reply.{Reply}
@@ -54,7 +55,7 @@ is-kept enc state last schedule rated = (last, schedule, rated)
 pub still-rated : {T O : Type 0} (enc : EncoderConfig) (before after : SessionState T O) → IsRated enc (moment_of before) before.rate →
     after.log ≡ before.log → after.commands ≡ before.commands → after.rate ≡ before.rate → IsRated enc (moment_of after) after.rate
 still-rated {T} {O} enc before after rated same_log same_commands same_rate = rw same_rate (record {
-  keeps = subst (λ (log : List LogEntry). Keeps enc before.rate.tables log before.rate) (sym logged) rated.keeps;
+  keeps = subst (λ (log : List LogEntry). Keeps enc before.rate.tables no_passes log before.rate) (sym logged) rated.keeps;
   few = rw (logged, same_commands) rated.few;
   sized = subst (λ (log : List LogEntry). All IsSized log) (sym logged) rated.sized;
 })
@@ -65,7 +66,7 @@ still-rated {T} {O} enc before after rated same_log same_commands same_rate = rw
 -- before the first frame
 pub kept-opening : {T O : Type 0} (enc : EncoderConfig) (state : SessionState T O) → state.accepted ≡ 0 → state.flushed ≡ false → state.commands ≡ 0 → state.decisions.items ≡ [] →
     state.last_key ≡ 0 → IsSchedule (numbers_of enc) (interval_of enc.max_key_frame_interval) 0 false [] 0 state.schedule →
-    state.log.items ≡ [] → Keeps enc state.rate.tables [] state.rate → IsKept enc state
+    state.log.items ≡ [] → Keeps enc state.rate.tables no_passes [] state.rate → IsKept enc state
 kept-opening {T} {O} enc state accepted flushed commands decisions last schedule none keeps = is-kept enc state kept_last scheduled rated
   where
     kept_last : KeepsLastKey state
@@ -79,7 +80,7 @@ kept-opening {T} {O} enc state accepted flushed commands decisions last schedule
 
     rated : IsRated enc (moment_of state) state.rate
     rated = record {
-      keeps = subst (λ (log : List LogEntry). Keeps enc state.rate.tables log state.rate) (sym empty) keeps;
+      keeps = subst (λ (log : List LogEntry). Keeps enc state.rate.tables no_passes log state.rate) (sym empty) keeps;
       few = subst (λ (log : List LogEntry). length log ≤ state.commands * 2) (sym empty) zero-le;
       sized = subst (λ (log : List LogEntry). All IsSized log) (sym empty) (All-nil IsSized);
     }

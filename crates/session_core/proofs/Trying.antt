@@ -1,5 +1,5 @@
 -- A receive that codes: what is tried, and the command for good behind it.
-use Rattle.std.proofs.Common.{◌≡◌, ℕ, ◌+◌, ◌*◌, ◌≤◌, ◌<◌, ◌^◌, Bool, true, false, not, cond, List, [], ◌∷◌, ◌++◌, map, filter, take, drop, length, All, IfOk, OnOk, MatchBool, Result, Ok, Err, Some, None, ℤ, pos, refl, sym, ap, ap₂, ◌∙◌, subst, append-nil, append_assoc, add-zero, arith}
+use Rattle.std.proofs.Common.{◌≡◌, ℕ, ◌+◌, ◌*◌, ◌≤◌, ◌<◌, ◌^◌, Bool, true, false, not, cond, List, [], ◌∷◌, ◌++◌, map, filter, take, drop, length, int_lt, All, IfOk, OnOk, MatchBool, Result, Ok, Err, Some, None, ℤ, pos, refl, sym, ap, ap₂, ◌∙◌, subst, append-nil, append_assoc, add-zero, arith}
 use Rattle.std.specs.List.{flat_map, slice_get}
 use Rattle.std.proofs.lemmas.Bool.{and_parts, cond-false}
 use Rattle.std.proofs.lemmas.List.{length-append}
@@ -11,6 +11,7 @@ use Rattle.av1_settings.specs.declared.encoder.EncoderConfig.{EncoderConfig}
 use Rattle.pyramid.specs.declared.command.Command.{Command}
 use Rattle.pyramid.specs.Known.{is_coding}
 use Rattle.quantizers.specs.Tables.{Tables}
+use Rattle.session_log.specs.Passes.{Passes, no_passes, passes_after}
 use Rattle.session_log.specs.Keeps.{IsLog, IsSized, Keeps, RateKept}
 use Rattle.session_log.specs.Selection.{is_trial_due, reservoir_after}
 use Rattle.session_log.specs.declared.entry.LogEntry.{LogEntry}
@@ -35,6 +36,16 @@ use Rattle.session_core.specs.Turns.{AreTrials, BeginTrials, CodesNext, IsTrial,
 use Rattle.session_core.proofs.Scheduling.{is-kept, kept-last_key, kept-schedule, received-scheduled}
 use Rattle.session_core.proofs.StateLemmas.{taken-tried}
 use Rattle.session_core.proofs.Telling.{ahead-nothing, counts-fault, counts-none, counts-then, taken-none, taken-then}
+
+-- ---- in one pass
+
+-- an entry leaves no passes as they are
+pub one-pass : (enc : EncoderConfig) (tables : Tables) (log : List LogEntry) (entry : LogEntry) (rate : RateKept) →
+    Keeps enc tables (passes_after enc no_passes log entry) (log ++ entry ∷ []) rate → Keeps enc tables no_passes (log ++ entry ∷ []) rate
+one-pass enc tables log entry rate keeps = subst (λ (passes : Passes). Keeps enc tables passes (log ++ entry ∷ []) rate) still keeps
+  where
+    still : passes_after enc no_passes log entry ≡ no_passes
+    still = elim (int_lt (pos 0) enc.bitrate) as (λ b. cond b no_passes no_passes ≡ no_passes) [ true ↦ refl | false ↦ refl ]
 
 -- ---- what is tried
 
@@ -125,7 +136,7 @@ tried-once {T} {O} enc tables m command scale coded told now waits can e same tr
 
 pub rated-none : {T O : Type 0} (enc : EncoderConfig) (m : Moment T O) (rate : RateKept) → IsRated enc m rate → IsRatedBehind enc rate.tables m [] rate
 rated-none enc m rate rated = record {
-  keeps = subst (λ (log : List LogEntry). Keeps enc rate.tables log rate) (sym (append-nil m.log)) rated.keeps;
+  keeps = subst (λ (log : List LogEntry). Keeps enc rate.tables no_passes log rate) (sym (append-nil m.log)) rated.keeps;
   few = rated.few;
   sized = subst (All IsSized) (sym (append-nil m.log)) rated.sized;
 }
@@ -141,9 +152,9 @@ next-log enc tables m entries entry rate rated short room sized =
     }
 
 pub rated-next : {T O : Type 0} (enc : EncoderConfig) (tables : Tables) (m : Moment T O) (entries : List LogEntry) (entry : LogEntry) (rate then : RateKept) →
-    IsRatedBehind enc tables m entries rate → IsSized entry → Keeps enc tables ((m.log ++ entries) ++ entry ∷ []) then → IsRatedBehind enc tables m (entries ++ entry ∷ []) then
+    IsRatedBehind enc tables m entries rate → IsSized entry → Keeps enc tables no_passes ((m.log ++ entries) ++ entry ∷ []) then → IsRatedBehind enc tables m (entries ++ entry ∷ []) then
 rated-next enc tables m entries entry rate then rated sized keeps = record {
-  keeps = subst (λ (log : List LogEntry). Keeps enc tables log then) (append_assoc m.log entries (entry ∷ [])) keeps;
+  keeps = subst (λ (log : List LogEntry). Keeps enc tables no_passes log then) (append_assoc m.log entries (entry ∷ [])) keeps;
   few = rated.few;
   sized = subst (All IsSized) (append_assoc m.log entries (entry ∷ [])) (All-push IsSized (m.log ++ entries) entry rated.sized sized);
 }
@@ -300,8 +311,8 @@ received-count m log (Status status) = refl
 received-rated : {T O : Type 0} (enc : EncoderConfig) (m : Moment T O) (log : List LogEntry) (reply : Reply T O) (tables : Tables) (rate : RateKept) →
     length (real_entries log) ≡ 1 → length log ≤ 2 → IsRatedBehind enc tables m log rate → rate.tables ≡ tables → IsRated enc (after_receive m log reply) rate
 received-rated {T} {O} enc m log reply tables rate one short rated same = record {
-  keeps = subst (λ (t : Tables). Keeps enc t (after_receive m log reply).log rate) (sym same)
-      (subst (λ (l : List LogEntry). Keeps enc tables l rate) (sym (received-log m log reply)) rated.keeps);
+  keeps = subst (λ (t : Tables). Keeps enc t no_passes (after_receive m log reply).log rate) (sym same)
+      (subst (λ (l : List LogEntry). Keeps enc tables no_passes l rate) (sym (received-log m log reply)) rated.keeps);
   few = few (length (after_receive m log reply).log) (length m.log) (length log) (after_receive m log reply).commands m.commands (length (real_entries log))
       (ap (λ (l : List LogEntry). length l) (received-log m log reply) ∙ length-append m.log log) (received-count m log reply) rated.few short one;
   sized = subst (All IsSized) (sym (received-log m log reply)) rated.sized;
@@ -345,11 +356,11 @@ kept-answered enc before after command scale trials (Err error) told between now
 
 -- ---- a call that codes nothing
 
-pub quiet-quantised : {T O : Type 0} (enc : EncoderConfig) (tables : Tables) (m : Moment T O) (turn : Turn T O) → turn.log ≡ [] → turn.reservoir ≡ reservoir_after enc m.log →
+pub quiet-quantised : {T O : Type 0} (enc : EncoderConfig) (tables : Tables) (m : Moment T O) (turn : Turn T O) → turn.log ≡ [] → turn.reservoir ≡ reservoir_after enc no_passes m.log →
     IsQuantised enc tables m turn
 quiet-quantised enc tables m turn none held = record {
   selected = subst (λ (log : List LogEntry). AreSelected enc tables m m.log log) (sym none) tt;
-  reservoir = held ∙ ap (reservoir_after enc) (sym (ap (λ (log : List LogEntry). m.log ++ log) none ∙ append-nil m.log));
+  reservoir = held ∙ ap (reservoir_after enc no_passes) (sym (ap (λ (log : List LogEntry). m.log ++ log) none ∙ append-nil m.log));
 }
 
 -- ---- a call of the coder that fails

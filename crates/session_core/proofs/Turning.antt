@@ -6,6 +6,7 @@ use Rattle.av1_frame.specs.Planes.{fits}
 use Rattle.av1_settings.specs.declared.encoder.EncoderConfig.{EncoderConfig}
 use Rattle.av1_settings.specs.declared.status.EncoderStatus.TheVariants.{EnoughData, FrameSizeMismatch}
 use Rattle.quantizers.specs.Tables.{Tables}
+use Rattle.session_log.specs.Passes.{no_passes}
 use Rattle.session_log.specs.declared.entry.LogEntry.{LogEntry}
 use Rattle.session_log.specs.Selection.{reservoir_after}
 use Rattle.session_core.specs.declared.call.Call.{Call}
@@ -36,7 +37,7 @@ sent-packet {T} {O} enc moment picture = by_test (has_enough enc moment) (fits p
 -- a call that codes nothing
 pub quiet-step : {T O : Type 0} (enc : EncoderConfig) (tables : Tables) (call : Call T O) (turn : Turn T O) (before after : Moment T O)
     (coder : CoderTold T) (detector now : DetectorTold T) (scales : ScalesTold T) →
-    turn.log ≡ [] → turn.reservoir ≡ reservoir_after enc before.log → packet_of turn.reply ≡ [] →
+    turn.log ≡ [] → turn.reservoir ≡ reservoir_after enc no_passes before.log → packet_of turn.reply ≡ [] →
     IsTurn enc after.decisions before call turn → after ≡ after_turn enc after.decisions before call turn →
     IsAskedIn enc before after detector.questions now.questions detector.answers →
     IsStep enc tables call turn before after (heard coder detector scales) (heard coder now scales)
@@ -45,7 +46,7 @@ quiet-step {T} {O} enc tables call turn before after coder detector now scales l
   moment = leads;
   quantised = record {
     selected = rw log tt;
-    reservoir = reservoir ∙ ap (reservoir_after enc) (sym (append-nil before.log)) ∙ ap (λ (l : List LogEntry). reservoir_after enc (before.log ++ l)) (sym log);
+    reservoir = reservoir ∙ ap (reservoir_after enc no_passes) (sym (append-nil before.log)) ∙ ap (λ (l : List LogEntry). reservoir_after enc no_passes (before.log ++ l)) (sym log);
   };
   taken = rw (log, packet) (taken-none coder);
   counted = rw log (counts-none coder.fails_after);

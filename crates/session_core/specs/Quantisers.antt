@@ -12,6 +12,7 @@ use Rattle.quantizers.specs.Tables.{Tables}
 use Rattle.quantizers.specs.declared.parameters.QuantizerParameters.{QuantizerParameters}
 use Rattle.rate_model.specs.Measure.{LAST_I32}
 use Rattle.ratecontrol.specs.declared.guess.Guess.{Guess}
+use Rattle.session_log.specs.Passes.{no_passes}
 use Rattle.session_log.specs.declared.entry.LogEntry.{LogEntry}
 use Rattle.session_log.specs.Selection.{reservoir_after, selection}
 use Rattle.session_core.specs.declared.transcript.Turn.{Turn}
@@ -49,7 +50,7 @@ abbrev pub quantisers_at : {T O : Type 0} → EncoderConfig → Tables → Momen
 quantisers_at enc tables moment before entry =
     elim entry.command [
       | Code frame kind refs refresh shown ↦
-          Some (selection enc tables before (guess_at enc moment) (gop_start_at enc moment) entry.command entry.mean_scale)
+          Some (selection enc tables no_passes before (guess_at enc moment) (gop_start_at enc moment) entry.command entry.mean_scale)
       | Show slot ↦ None
     ]
 
@@ -63,4 +64,4 @@ AreSelected enc tables moment before (entry ∷ entries) =
 -- the quantisers of what a turn coded, and what the reservoir holds then
 pub record IsQuantised {T O : Type 0} (enc : EncoderConfig) (tables : Tables) (moment : Moment T O) (turn : Turn T O) : Type 0 where
   pub selected : AreSelected enc tables moment moment.log turn.log
-  pub reservoir : turn.reservoir ≡ reservoir_after enc (moment.log ++ turn.log)
+  pub reservoir : turn.reservoir ≡ reservoir_after enc no_passes (moment.log ++ turn.log)

@@ -15,6 +15,7 @@ use Rattle.pyramid.specs.Places.{settled_commands}
 use Rattle.pyramid.specs.Schedules.{IsSchedule}
 use Rattle.pyramid.specs.Settings.{numbers_of}
 use Rattle.quantizers.specs.Tables.{Tables}
+use Rattle.session_log.specs.Passes.{no_passes}
 use Rattle.session_log.specs.declared.entry.LogEntry.{LogEntry}
 use Rattle.session_log.specs.Keeps.{IsSized, Keeps, RateKept}
 use Rattle.session_log.specs.Selection.{reservoir_after}
@@ -74,7 +75,7 @@ IsScheduled enc moment schedule =
 
 -- rate control is that of a moment's log, in which a command has two entries at most
 pub record IsRated {T O : Type 0} (enc : EncoderConfig) (moment : Moment T O) (rate : RateKept) : Type 0 where
-  pub keeps : Keeps enc rate.tables moment.log rate
+  pub keeps : Keeps enc rate.tables no_passes moment.log rate
   pub few : length moment.log ≤ moment.commands * 2
   pub sized : All IsSized moment.log
 
@@ -159,7 +160,7 @@ pub record IsCoded {T O : Type 0} (moment : Moment T O) (told now : CoderTold T)
 
 -- rate control behind the entries of a receive so far
 pub record IsRatedBehind {T O : Type 0} (enc : EncoderConfig) (tables : Tables) (moment : Moment T O) (entries : List LogEntry) (rate : RateKept) : Type 0 where
-  pub keeps : Keeps enc tables (moment.log ++ entries) rate
+  pub keeps : Keeps enc tables no_passes (moment.log ++ entries) rate
   pub few : length moment.log ≤ moment.commands * 2
   pub sized : All IsSized (moment.log ++ entries)
 
@@ -180,7 +181,7 @@ pub record IsCodedTurn {T O : Type 0} (enc : EncoderConfig) (tables : Tables) (m
   pub scale_of : entry.mean_scale ≡ (if is_coding command then scale else pos 0)
   pub quant : entry.quant ≡ quantisers_at enc tables moment (moment.log ++ trials) entry
   pub reply : IsReceived moment entry turn.reply
-  pub reservoir : turn.reservoir ≡ reservoir_after enc (moment.log ++ turn.log)
+  pub reservoir : turn.reservoir ≡ reservoir_after enc no_passes (moment.log ++ turn.log)
   pub taken : IsTaken (handed_at moment entry) (entry ∷ []) (packet_of turn.reply) told now
   pub counted : Counts told.fails_after now.fails_after 1
 

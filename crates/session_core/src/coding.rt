@@ -4,6 +4,7 @@ ghost use Rattle.std.specs.Option.{option_map};
 ghost use Rattle.pyramid.specs.Known.{is_coding};
 ghost use Rattle.quantizers.specs.Tables.{Tables};
 ghost use Rattle.session_log.specs.Keeps.{Keeps};
+ghost use Rattle.session_log.specs.Passes.{no_passes};
 ghost use Rattle.session_log.specs.declared.entry.LogEntry.{LogEntry as Entry};
 ghost use Rattle.session_core.specs.declared.fault.SessionFault.TheVariants.{Coder};
 ghost use Rattle.session_core.specs.Quantisers.{quantisers_at};
@@ -45,7 +46,7 @@ impl<T: Drop, O: Drop> SessionState<T, O> {
         ensures scale { IfOk result (λ coded.
             coded.entry.mean_scale ≡ (if is_coding command.now then mean_scale else pos 0)) }
         ensures quant { IfOk result (λ coded. (tables : Tables) (log : List Entry) →
-            Keeps enc.now tables log self.now.rate →
+            Keeps enc.now tables no_passes log self.now.rate →
             coded.entry.quant ≡ quantisers_at enc.now tables (moment_of self.now) log coded.entry) }
         ensures coded { IfOk result
             (IsCoded (moment_of self.now) (C.told coder.old) (C.told coder.new)) }

@@ -5,7 +5,7 @@ ghost use Rattle.av1_frame.specs.Sizes.{chroma_size};
 ghost use Rattle.av1_settings.specs.declared.invalid.InvalidConfig.{InvalidConfig};
 ghost use Rattle.av1_settings.specs.Checks.{asks_passes, pixel_refusal};
 ghost use Rattle.av1_settings.specs.Header.{container_sequence_header};
-ghost use Rattle.session_log.specs.Selection.{rate_after};
+ghost use Rattle.session_log.specs.Passes.{no_passes, rate_at};
 ghost use Rattle.session_core.specs.declared.call.Call.TheVariants.{Flush, Receive};
 ghost use Rattle.session_core.specs.declared.transcript.Reply.TheVariants.{Flushed};
 ghost use Rattle.session_core.specs.declared.setup.SetupError.TheVariants.{Invalid, Unbuilt};
@@ -236,7 +236,7 @@ impl<
     /// The state of the rate controller. No memory is taken.
     pub fn rc(&self) -> &RCState
         ensures { self.now.failure ≡ None
-            → result.now ≡ rate_after self.now.enc self.now.moment.log }
+            → result.now ≡ rate_at self.now.enc no_passes self.now.moment.log }
     {
         self.state.rate.state()
     }

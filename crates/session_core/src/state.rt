@@ -5,6 +5,7 @@ ghost use Rattle.av1_settings.specs.Checks.{IsValid};
 ghost use Rattle.quantizers.specs.Tables.{Tables};
 ghost use Rattle.session_log.specs.declared.entry.LogEntry.{LogEntry as Entry};
 ghost use Rattle.session_log.specs.Keeps.{Keeps};
+ghost use Rattle.session_log.specs.Passes.{Passes};
 ghost use Rattle.session_log.specs.Selection.{reservoir_after};
 ghost use Rattle.session_core.specs.declared.call.Call.TheVariants.{Flush};
 ghost use Rattle.session_core.specs.declared.fault.SessionFault.TheVariants.{Coder};
@@ -135,8 +136,10 @@ impl<T: Drop, O: Drop> SessionState<T, O> {
     pub(crate) fn without_log(&self, alloc: Global, reply: Reply<T, O>) -> Turn<T, O>
         ensures reply { result.reply ≡ reply }
         ensures log { result.log ≡ [] }
-        ensures reservoir { (enc : Settings) (tables : Tables) (log : List Entry) →
-            Keeps enc tables log self.now.rate → result.reservoir ≡ reservoir_after enc log }
+        ensures reservoir { (enc : Settings) (tables : Tables) (passes : Passes)
+            (log : List Entry) →
+            Keeps enc tables passes log self.now.rate →
+            result.reservoir ≡ reservoir_after enc passes log }
     {
         Turn {
             reply,

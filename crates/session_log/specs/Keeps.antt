@@ -1,5 +1,5 @@
 -- What a session's rate control keeps, and what it goes by.
-use Rattle.std.specs.Prelude.{◌≡◌, ◌<◌, ◌≤◌, ◌^◌, false, List, length, Option, ℤ}
+use Rattle.std.specs.Prelude.{◌≡◌, ◌<◌, ◌≤◌, ◌^◌, false, List, [], length, map, filter, Option, is_some, IsTrue, ℤ}
 use Rattle.std.specs.List.{All}
 use Rattle.av1_settings.specs.declared.encoder.EncoderConfig.{EncoderConfig}
 use Rattle.av1_settings.specs.Checks.{IsValid}
@@ -7,9 +7,12 @@ use Rattle.pyramid.specs.declared.command.Command.{Command}
 use Rattle.pyramid.specs.declared.command.Command.TheVariants.{Code, Show}
 use Rattle.quantizers.specs.Tables.{Tables}
 use Rattle.quantizers.specs.declared.settings.QSettings.{QSettings}
+use Rattle.ratecontrol.specs.Log.{is_real}
 use Rattle.ratecontrol.specs.Rate.{Rate}
 use Rattle.session_log.specs.declared.entry.LogEntry.{LogEntry}
-use Rattle.session_log.specs.Selection.{last_base, rate_after, settings_of}
+use Rattle.session_log.specs.Passes.{Passes, rate_at}
+use Rattle.session_log.specs.Readings.{measured, settings_of}
+use Rattle.session_log.specs.Selection.{last_base}
 
 -- what is kept between the entries of a log
 pub record RateKept : Type 0 where
@@ -37,10 +40,16 @@ pub record IsLog (log : List LogEntry) : Type 0 where
   pub few : length log ≤ 2 ^ 33
   pub sized : All IsSized log
 
--- what is kept is what a session of these settings and tables keeps behind this log
-pub record Keeps (enc : EncoderConfig) (quantizer_tables : Tables) (log : List LogEntry) (kept : RateKept) : Type 0 where
+-- where there are entries, some were coded for good
+abbrev pub IsCodedForGood : List LogEntry → Type 0
+IsCodedForGood log = filter is_real (map measured log) ≡ [] → log ≡ []
+
+-- what is kept is what a session of these settings and tables keeps behind this log, with these passes; a summary comes in a
+-- second pass alone
+pub record Keeps (enc : EncoderConfig) (quantizer_tables : Tables) (passes : Passes) (log : List LogEntry) (kept : RateKept) : Type 0 where
   pub valid : IsValid enc
-  pub state : kept.state ≡ rate_after enc log
+  pub header : IsTrue (is_some passes.given.header) → IsTrue passes.second
+  pub state : kept.state ≡ rate_at enc passes log
   pub settings : kept.settings ≡ settings_of enc
   pub tables : kept.tables ≡ quantizer_tables
   pub bitrate : kept.bitrate ≡ enc.bitrate

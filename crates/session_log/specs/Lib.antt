@@ -1,2 +1,4 @@
 pub mod Keeps
+pub mod Passes
+pub mod Readings
 pub mod Selection

@@ -1,6 +1,6 @@
 ghost use Rattle.std.specs.Prelude.{◌≡◌, ◌*◌, ◌<◌, ◌^◌, length, pos};
 ghost use Rattle.pyramid.specs.Display.{shows};
-ghost use Rattle.session_log.specs.Selection.{base_of, target_of};
+ghost use Rattle.session_log.specs.Readings.{base_of, target_of};
 
 use coding_base::{Bytes, Sequence};
 use pyramid::Command;

@@ -1,5 +1,5 @@
 // The rate control of a session, which goes by the session's log.
-ghost use Rattle.std.specs.Prelude.{◌≡◌, ◌++◌, ◌<◌, ◌≤◌, ◌^◌, [], ◌∷◌, List, length, true, ◌&&◌, if◌then◌else◌, Option, Some, None, int_lt, pos};
+ghost use Rattle.std.specs.Prelude.{◌≡◌, ◌++◌, ◌<◌, ◌≤◌, ◌^◌, [], ◌∷◌, List, length, true, ◌&&◌, if◌then◌else◌, Option, Some, None, int_lt, pos, ◌≤ℤ◌};
 ghost use Rattle.std.specs.Option.{option_or};
 ghost use Rattle.std.specs.Ordering.{int_eq};
 ghost use Rattle.av1_settings.specs.declared.encoder.EncoderConfig.{EncoderConfig as Settings};
@@ -11,7 +11,9 @@ ghost use Rattle.ratecontrol.specs.Select.{select};
 ghost use Rattle.ratecontrol.specs.Update.{update};
 ghost use Rattle.session_log.specs.declared.entry.LogEntry.{LogEntry as Entry};
 ghost use Rattle.session_log.specs.Keeps.{IsLog, Keeps};
-ghost use Rattle.session_log.specs.Selection.{base_of, greatest_index, is_trial_due, measured, rate_after, reservoir_after, selection, settings_of, start_of};
+ghost use Rattle.session_log.specs.Passes.{Passes, no_passes, passes_after};
+ghost use Rattle.session_log.specs.Readings.{base_of, greatest_index, measured, settings_of, start_of};
+ghost use Rattle.session_log.specs.Selection.{is_trial_due, reservoir_after, selection};
 
 use crate::LogEntry;
 use av1_settings::EncoderConfig;
@@ -21,11 +23,12 @@ use ratecontrol::{RCState, SubtypeGuess};
 use std::alloc::Global;
 use std::marker::Model;
 
-/// The rate control of a session. It is told each entry of the session's log, and selects the quantisers of what is coded
-/// next. Contracts see it as a record (`RateKept`), and say by `Keeps` which log it was told.
+/// The rate control of a session. It is told each entry of the session's log, selects the quantisers of what is coded next,
+/// and hands on the data of a first pass to a second. Contracts see it as a record (`RateKept`), and say by `Keeps` which log
+/// it was told and what its passes hand on.
 #[derive(Drop)]
 pub struct SessionRate {
-    state: RCState,
+    pub(crate) state: RCState,
     settings: QSettings,
     tables: QTables,
     bitrate: i32,
@@ -55,10 +58,10 @@ impl Model for SessionRate {
 }
 
 impl SessionRate {
-    /// The rate control of a session that hasn't begun, for valid settings. No memory is taken.
+    /// The rate control of a session that hasn't begun, in one pass, for valid settings. No memory is taken.
     pub fn new(alloc: Global, enc: &EncoderConfig, tables: &QTables) -> SessionRate
         requires { IsValid enc.now }
-        ensures { Keeps enc.now tables.now [] result }
+        ensures { Keeps enc.now tables.now no_passes [] result }
     {
         let state = start(alloc, enc);
         SessionRate::begin(state, settings(enc), tables, enc.bitrate)
@@ -87,8 +90,8 @@ impl SessionRate {
     /// Whether a command is to be tried before it is coded: there is a bitrate, and nothing of the command's subtype was
     /// coded for good.
     pub fn is_trial_due(&self, command: &Command) -> bool
-        ensures { (enc : Settings) (tables : Tables) (log : List Entry) →
-            Keeps enc tables log self.now → result ≡ is_trial_due enc log command.now }
+        ensures { (enc : Settings) (tables : Tables) (passes : Passes) (log : List Entry) →
+            Keeps enc tables passes log self.now → result ≡ is_trial_due enc log command.now }
     {
         match command {
             Command::Code { .. } => self.needs_trial(command.subtype()),
@@ -113,15 +116,15 @@ impl SessionRate {
         mean_scale: i64,
     ) -> QuantizerParameters
         requires { is_coding command.now ≡ true }
-        ensures { (enc : Settings) (tables : Tables) (log : List Entry) →
-            Keeps enc tables log self.now →
-            result ≡ selection enc tables log (G.guess guess.now) (G.gop_input_start guess.now)
+        ensures { (enc : Settings) (tables : Tables) (passes : Passes) (log : List Entry) →
+            Keeps enc tables passes log self.now →
+            result ≡ selection enc tables passes log (G.guess guess.now) (G.gop_input_start guess.now)
             command.now mean_scale }
     {
         self.select_subtype(guess, command.subtype(), mean_scale)
     }
 
-    fn select_subtype<G: SubtypeGuess>(
+    pub(crate) fn select_subtype<G: SubtypeGuess>(
         &self,
         guess: &G,
         subtype: usize,
@@ -142,12 +145,13 @@ impl SessionRate {
         )
     }
 
-    /// Takes the next entry of the log.
+    /// Takes the next entry of the log. Under a bitrate a first pass has its data to be taken then, and a second pass lets the
+    /// metrics of what was coded for good go.
     pub fn note(&mut self, entry: &LogEntry)
         ensures tables { self.new.tables ≡ self.old.tables }
-        ensures keeps { (enc : Settings) (tables : Tables) (log : List Entry) →
-            Keeps enc tables log self.old → IsLog (log ++ entry.now ∷ []) →
-            Keeps enc tables (log ++ entry.now ∷ []) self.new }
+        ensures keeps { (enc : Settings) (tables : Tables) (passes : Passes) (log : List Entry) →
+            Keeps enc tables passes log self.old → IsLog (log ++ entry.now ∷ []) →
+            Keeps enc tables (passes_after enc passes log entry.now) (log ++ entry.now ∷ []) self.new }
     {
         self.take(entry);
         self.follow(entry);
@@ -158,6 +162,8 @@ impl SessionRate {
         ensures others { self.new ≡ record self.old { state = self.new.state } }
         ensures state { length entry.now.bytes < 2 ^ 48 →
             self.new ≡ record self.old { state = update (measured entry.now) self.old.state } }
+        ensures most_low { pos 1 ≤ℤ self.old.state.most }
+        ensures most_high { self.old.state.most ≤ℤ pos (2 ^ 78) }
     {
         take_entry(&mut self.state, entry);
     }
@@ -171,8 +177,8 @@ impl SessionRate {
 
     /// The bits that the reservoir holds; none where there is no bitrate.
     pub fn reservoir(&self) -> Option<i128>
-        ensures { (enc : Settings) (tables : Tables) (log : List Entry) →
-            Keeps enc tables log self.now → result ≡ reservoir_after enc log }
+        ensures { (enc : Settings) (tables : Tables) (passes : Passes) (log : List Entry) →
+            Keeps enc tables passes log self.now → result ≡ reservoir_after enc passes log }
     {
         self.held()
     }
@@ -243,8 +249,10 @@ fn greatest_index(enc: &EncoderConfig) -> Option<u8>
 
 // The state after an entry.
 fn take_entry(state: &mut RCState, entry: &LogEntry)
-    ensures { length entry.now.bytes < 2 ^ 48 →
+    ensures state { length entry.now.bytes < 2 ^ 48 →
         state.new ≡ update (measured entry.now) state.old }
+    ensures most_low { pos 1 ≤ℤ state.old.most }
+    ensures most_high { state.old.most ≤ℤ pos (2 ^ 78) }
 {
     state.update_state(
         entry.bits(),

@@ -20,7 +20,7 @@ use Rattle.session_core.proofs.state.SessionState.receive.Goals as goal
 pub returns-in-Some-clause-quantised : goal.returns-in-Some-clause-quantised
 returns-in-Some-clause-quantised g c =
     quiet-quantised c.args.enc.now _ (moment_of c.args.self.now) c.without_log.result c.without_log.ensures.log
-    (c.without_log.ensures.reservoir _ _ _ (kept-rated _ _ c.requires.kept).keeps)
+    (c.without_log.ensures.reservoir _ _ _ _ (kept-rated _ _ c.requires.kept).keeps)
 
 pub returns-in-Some-clause-taken : goal.returns-in-Some-clause-taken
 returns-in-Some-clause-taken g c = rw (c.without_log.ensures.log, c.without_log.ensures.reply) (taken-none _)

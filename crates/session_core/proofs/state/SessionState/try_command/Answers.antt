@@ -2,17 +2,18 @@ use Rattle.std.proofs.Common.{◌≡◌, ◌+◌, ◌∷◌, [], ◌++◌, List,
 use Rattle.std.proofs.lemmas.Bool.{and_parts}
 use Rattle.std.proofs.lemmas.List.{length-map}
 use Rattle.pyramid.specs.Known.{is_coding}
+use Rattle.session_log.specs.Passes.{no_passes}
 use Rattle.session_log.specs.declared.entry.LogEntry.{LogEntry}
 use Rattle.session_core.specs.States.{moment_of, waiting_of, IsRatedBehind, IsTried}
 use Rattle.session_core.proofs.Scheduling.{kept-rated}
-use Rattle.session_core.proofs.Trying.{next-log, rated-next, rated-none, tried-nothing, tried-once}
+use Rattle.session_core.proofs.Trying.{next-log, one-pass, rated-next, rated-none, tried-nothing, tried-once}
 use Rattle.session_core.proofs.state.SessionState.try_command.Given as given
 use Rattle.session_core.proofs.state.SessionState.try_command.Goals as goal
 
 pub code-requires-clause-tried : goal.code-requires-clause-tried
 code-requires-clause-tried g c = λ tried.
     (and_parts (is_coding c.args.command.now) _
-    (sym (c.is_trial_due.ensures _ _ _ (kept-rated _ _ c.requires.kept).keeps) ∙ c.if-not-is_trial_due.false)).0
+    (sym (c.is_trial_due.ensures _ _ _ _ (kept-rated _ _ c.requires.kept).keeps) ∙ c.if-not-is_trial_due.false)).0
 
 pub returns-then-not-is_trial_due-clause-tried : goal.returns-then-not-is_trial_due-clause-tried
 returns-then-not-is_trial_due-clause-tried g c =
@@ -21,7 +22,7 @@ returns-then-not-is_trial_due-clause-tried g c =
     subst (λ (trials : List LogEntry). IsTried c.args.enc.now self.rate.tables (moment_of self) c.args.command.now c.args.mean_scale trials told told)
     (sym c.new-trials.ensures)
     (tried-nothing c.args.enc.now self.rate.tables (moment_of self) c.args.command.now c.args.mean_scale told
-    (sym (c.is_trial_due.ensures _ _ _ (kept-rated _ _ c.requires.kept).keeps) ∙ c.if-not-is_trial_due.true))
+    (sym (c.is_trial_due.ensures _ _ _ _ (kept-rated _ _ c.requires.kept).keeps) ∙ c.if-not-is_trial_due.true))
 
 pub returns-then-not-is_trial_due-clause-rated : goal.returns-then-not-is_trial_due-clause-rated
 returns-then-not-is_trial_due-clause-rated g c =
@@ -45,7 +46,7 @@ returns-in_ok-push-in-Ok-clause-tried g c =
     c.in-Ok.ensures.scale ∙ ap (λ (scale : ℤ). cond (is_coding c.args.command.now) scale (pos 0)) same in
     subst (λ (trials : List LogEntry). IsTried c.args.enc.now self.rate.tables (moment_of self) c.args.command.now c.args.mean_scale trials told now) (sym (one g c))
     (tried-once c.args.enc.now self.rate.tables (moment_of self) c.args.command.now c.args.mean_scale c.in-Ok.coded told now waits c.requires.next
-    (sym (c.is_trial_due.ensures _ _ _ rated.keeps) ∙ c.if-not-is_trial_due.false)
+    (sym (c.is_trial_due.ensures _ _ _ _ rated.keeps) ∙ c.if-not-is_trial_due.false)
     c.in-Ok.ensures.command c.in-Ok.ensures.trial scaled (c.in-Ok.ensures.quant _ _ rated.keeps) c.in-Ok.ensures.coded c.code.ensures.later.gives)
 
 pub returns-in_ok-push-in-Ok-clause-rated : goal.returns-in_ok-push-in-Ok-clause-rated
@@ -59,4 +60,5 @@ returns-in_ok-push-in-Ok-clause-rated g c =
     let sized = c.in-Ok.ensures.coded.sized in
     subst (λ (trials : List LogEntry). IsRatedBehind enc tables m trials c.note.new.self) (sym (one g c))
     (rated-next enc tables m [] entry self.rate c.note.new.self behind sized
-    (c.note.ensures.keeps enc tables (m.log ++ []) behind.keeps (next-log enc tables m [] entry self.rate behind zero-le c.requires.room sized)))
+    (one-pass enc tables (m.log ++ []) entry c.note.new.self
+    (c.note.ensures.keeps enc tables no_passes (m.log ++ []) behind.keeps (next-log enc tables m [] entry self.rate behind zero-le c.requires.room sized))))

@@ -1,5 +1,6 @@
 use Rattle.std.proofs.Common.{◌≡◌, IfOk, refl, sym, ap, ◌∙◌, subst}
 use Rattle.std.proofs.lemmas.Result.{MatchResult-weaker}
+use Rattle.session_log.specs.Passes.{no_passes}
 use Rattle.session_log.specs.Keeps.{Keeps, RateKept}
 use Rattle.session_core.specs.declared.call.Call.{Call}
 use Rattle.session_core.specs.declared.call.Call.TheVariants.{Send, Flush}
@@ -50,7 +51,7 @@ returns-clause-step g c =
     let Steps : Call g.row.T.Denot g.row.O.Denot → SessionState g.row.T.Denot g.row.O.Denot → g.row.D.Denot → Type 0 =
     λ call state detector. IsStep enc tables call turn before (moment_of state) (heard coder (told c.args.detector.now) scales) (heard coder (told detector) scales) in
     let rated = kept-rated enc c.args.self.now c.requires.kept in
-    let Held : SessionState g.row.T.Denot g.row.O.Denot → Type 0 = λ state. Keeps enc tables before.log state.rate in
+    let Held : SessionState g.row.T.Denot g.row.O.Denot → Type 0 = λ state. Keeps enc tables no_passes before.log state.rate in
     elim c.match-call.branch [
       | in-Send+in_ok-reply-in-Send w ↦
           let call : Call g.row.T.Denot g.row.O.Denot = Send w.in-Send.frame w.in-Send.parameters in
@@ -60,22 +61,22 @@ returns-clause-step g c =
           let after : moment_of now.self ≡ after_send enc now.self.decisions.items before (accepted_of w.in-Send.frame.value w.in-Send.parameters) turn.reply =
           facts.after ∙ ap (after_send enc now.self.decisions.items before (accepted_of w.in-Send.frame.value w.in-Send.parameters)) (sym (c.without_log.ensures.reply ∙ w.reply-is)) in
           let is : IsTurn enc (moment_of now.self).decisions before call turn = ((reply, log), subst (Decides enc before) after facts.decides) in
-          let keeps : Held c.match-call.self = subst Held (sym w.self-is) (subst (λ (rate : RateKept). Keeps enc tables before.log rate) (sym facts.rate) rated.keeps) in
+          let keeps : Held c.match-call.self = subst Held (sym w.self-is) (subst (λ (rate : RateKept). Keeps enc tables no_passes before.log rate) (sym facts.rate) rated.keeps) in
           subst (λ call. Steps call c.match-call.self c.match-call.detector) (sym w.in-Send.is)
           (subst (λ state. Steps call state c.match-call.detector) (sym w.self-is)
           (subst (λ detector. Steps call now.self detector) (sym w.detector-is)
-          (quiet-step enc tables call turn before (moment_of now.self) coder _ _ scales log (c.without_log.ensures.reservoir enc tables before.log keeps)
+          (quiet-step enc tables call turn before (moment_of now.self) coder _ _ scales log (c.without_log.ensures.reservoir enc tables no_passes before.log keeps)
           (ap packet_of reply ∙ sent-packet enc before w.in-Send.frame.value) is after facts.asked)))
       | in-Flush+in_ok-reply-in-Flush w ↦
           let now = w.flush.new in
           let facts = w.in_ok-reply-in-Flush.ensures in
           let reply : turn.reply ≡ Flushed = c.without_log.ensures.reply ∙ w.reply-is ∙ facts.reply in
           let is : IsTurn enc (moment_of now.self).decisions before Flush turn = ((reply, log), subst (Decides enc before) facts.after facts.decides) in
-          let keeps : Held c.match-call.self = subst Held (sym w.self-is) (subst (λ (rate : RateKept). Keeps enc tables before.log rate) (sym facts.rate) rated.keeps) in
+          let keeps : Held c.match-call.self = subst Held (sym w.self-is) (subst (λ (rate : RateKept). Keeps enc tables no_passes before.log rate) (sym facts.rate) rated.keeps) in
           subst (λ call. Steps call c.match-call.self c.match-call.detector) (sym w.in-Flush.is)
           (subst (λ state. Steps Flush state c.match-call.detector) (sym w.self-is)
           (subst (λ detector. Steps Flush now.self detector) (sym w.detector-is)
-          (quiet-step enc tables Flush turn before (moment_of now.self) coder _ _ scales log (c.without_log.ensures.reservoir enc tables before.log keeps)
+          (quiet-step enc tables Flush turn before (moment_of now.self) coder _ _ scales log (c.without_log.ensures.reservoir enc tables no_passes before.log keeps)
           (ap packet_of reply) is facts.after facts.asked)))
     ]
 
