@@ -3,33 +3,13 @@ ghost use Rattle.av1_settings.specs.Checks.{IsValid};
 
 mod ends;
 mod queues;
-mod shared;
 mod texts;
 mod threads;
 
-use crate::PutError;
 use av1_settings::{Config, EncoderConfig, EncoderStats, FrameType, LevelRow, LevelTables};
 use coding_base::{Bytes, OutOfMemory};
 use session_core::Packet;
 use std::alloc::Global;
-
-// What a put answered.
-#[derive(Clone, Copy, Debug, PartialEq, Eq)]
-enum Answer {
-    Put,
-    Full(u16),
-    Closed(u16),
-    OutOfMemory(u16),
-}
-
-fn answer_of(answer: Result<(), PutError<u16>>) -> Answer {
-    match answer {
-        Ok(()) => Answer::Put,
-        Err(PutError::Full(message)) => Answer::Full(message),
-        Err(PutError::Closed(message)) => Answer::Closed(message),
-        Err(PutError::OutOfMemory(message)) => Answer::OutOfMemory(message),
-    }
-}
 
 // The default settings, if they are valid.
 fn settings() -> Option<EncoderConfig>

@@ -7,7 +7,6 @@ use crate::{
 use std::alloc::Global;
 use std::sync::Wait;
 use std::sync::atomic::{AtomicBool, Ordering};
-use std::test::Fail;
 use std::thread;
 
 // Puts so many messages, from 0, and closes the queue. Answers how many were put.
@@ -48,10 +47,10 @@ fn watch<M: Drop, R: Wait + Copy>(mut queue: SharedQueue<M, R>, done: &AtomicBoo
 
 // Each put but the first has to wait for a take.
 #[test]
-fn a_queue_of_one_between_two_threads(rt: HostRuntime) -> Result<(), Fail> {
-    let putting = SharedQueue::new(&rt, rt.alloc(), Some(1))?;
-    let taking = putting.another()?;
-    let watched = putting.another()?;
+fn a_queue_of_one_between_two_threads(rt: HostRuntime) {
+    let putting = SharedQueue::new(&rt, rt.alloc(), Some(1)).expect(&rt, "memory");
+    let taking = putting.another().expect(&rt, "memory");
+    let watched = putting.another().expect(&rt, "memory");
     let done = AtomicBool::new(false);
     let (counts, ()) = thread::join(
         &rt,
@@ -63,7 +62,6 @@ fn a_queue_of_one_between_two_threads(rt: HostRuntime) -> Result<(), Fail> {
         || watch(watched, &done),
     );
     assert_eq!(rt; counts, (500, 500));
-    Ok(())
 }
 
 type Frames<R> = SharedQueue<FrameMessage<u16, u64>, R>;
@@ -91,7 +89,7 @@ fn encode<R: Wait + Copy>(
     let mut receiver = PacketReceiver::new(&enc, packets);
     let mut in_order = 0;
     for number in 0..count {
-        if receiver.recv().map(|packet| packet.input_frameno) == Ok(number) {
+        if matches!(receiver.recv(), Ok(packet) if packet.input_frameno == number) {
             in_order = number + 1;
         }
     }
@@ -117,12 +115,18 @@ fn answer_frames<R: Wait + Copy>(
 }
 
 #[test]
-fn frames_go_to_another_thread_and_packets_come_back(rt: HostRuntime) -> Result<(), Fail> {
+fn frames_go_to_another_thread_and_packets_come_back(rt: HostRuntime) {
     let alloc = rt.alloc();
-    let frames = SharedQueue::new(&rt, alloc, Some(2))?;
-    let packets = SharedQueue::new(&rt, alloc, None)?;
-    let (sent, taken) = (frames.another()?, packets.another()?);
-    let watched = (frames.another()?, packets.another()?);
+    let frames = SharedQueue::new(&rt, alloc, Some(2)).expect(&rt, "memory");
+    let packets = SharedQueue::new(&rt, alloc, None).expect(&rt, "memory");
+    let (sent, taken) = (
+        frames.another().expect(&rt, "memory"),
+        packets.another().expect(&rt, "memory"),
+    );
+    let watched = (
+        frames.another().expect(&rt, "memory"),
+        packets.another().expect(&rt, "memory"),
+    );
     let done = AtomicBool::new(false);
     let (outcome, ()) = thread::join(
         &rt,
@@ -141,5 +145,4 @@ fn frames_go_to_another_thread_and_packets_come_back(rt: HostRuntime) -> Result<
         },
     );
     assert_eq!(rt; outcome, (5, Some(RecvError::Closed)));
-    Ok(())
 }
