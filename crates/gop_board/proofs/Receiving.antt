@@ -81,7 +81,7 @@ until-more enough (command ∷ front) rest =
 
 -- ---- of a job
 
-interval-positive : (interval : ℕ) → 1 ≤ interval_of interval
+pub interval-positive : (interval : ℕ) → 1 ≤ interval_of interval
 interval-positive interval = cond_both (eqb interval 0) _ interval (λ n. 1 ≤ n) (λ e. omega arith) (λ e. positive interval (eqb-false interval 0 e))
   where
     positive : (n : ℕ) → (n ≡ 0 → ⊥) → 1 ≤ n

@@ -1,7 +1,8 @@
 -- What a maker that tells ahead determines.
-use Rattle.std.specs.Prelude.{◌≡◌, ◌≤◌, ⊤, ℕ, List, map, length, take, Option, IsSome}
+use Rattle.std.specs.Prelude.{◌≡◌, ◌≤◌, ⊤, ℕ, List, map, length, take, All, IsTrue, Option, IsSome}
 use Rattle.std.specs.Option.{option_map}
 use Rattle.av1_frame.specs.declared.frame.Frame.{Frame}
+use Rattle.av1_frame.specs.Planes.{fits}
 use Rattle.av1_settings.specs.declared.encoder.EncoderConfig.{EncoderConfig}
 use Rattle.av1_settings.specs.declared.encoder_stats.EncoderStats.{EncoderStats}
 use Rattle.av1_settings.specs.declared.frame_type.FrameType.{FrameType}
@@ -9,6 +10,7 @@ use Rattle.quantizers.specs.Tables.{Tables}
 use Rattle.session_core.specs.declared.packet.Packet.{Packet}
 use Rattle.session_core.specs.Sessions.{commands_of}
 use Rattle.session_core.specs.Told.{CoderTold}
+use Rattle.session_core.specs.Turns.{frame_limit}
 use Rattle.gop_board.specs.JobCalls.{job_plan}
 use Rattle.gop_board.specs.JobSessions.{GavePackets, MetFault}
 use Rattle.gop_board.specs.Makers.{MakerTold}
@@ -42,11 +44,13 @@ PacketsAreDetermined {T} {M} told =
     GavePackets enc tables (told maker job first) pictures one → GavePackets enc tables (told maker job first) pictures other →
     map seen one ≡ map seen other
 
--- the commands that were coded before a fault that is the job's are the first of the plan of its first frames, as many as were
--- accepted by then, where the first alone is decided to be a key
+-- the commands that were coded before a fault that is the job's are the first of the plan of its frames, where the first frame
+-- alone is decided to be a key; the frames are such as a session accepts
 abbrev pub FaultsAreOnThePlan : {T M : Type 0} → (M → ℕ → ℕ → MakerTold T) → Type 0
 FaultsAreOnThePlan {T} {M} told =
-    (enc : EncoderConfig) (tables : Tables) (maker : M) (job first : ℕ) (pictures : List (Frame T)) (command : ℕ) (coder : CoderTold T)
+    (enc : EncoderConfig) (tables : Tables) (maker : M) (job first : ℕ) (pictures : List (Frame T)) (command : ℕ) (coder : CoderTold T) →
+    All (λ picture. IsTrue (fits picture enc.width enc.height enc.chroma_sampling)) pictures →
+    length pictures ≤ frame_limit →
+    (IsTrue enc.still_picture → length pictures ≤ 1) →
     (fault : MetFault enc tables (told maker job first) pictures command coder) →
-    (accepted : ℕ) × (accepted ≤ length pictures)
-    × (commands_of fault.session.fails.turns ≡ take command (job_plan enc accepted))
+    commands_of fault.session.fails.turns ≡ take command (job_plan enc (length pictures))

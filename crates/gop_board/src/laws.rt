@@ -30,8 +30,8 @@ pub fn packets_of_a_job_are_determined<T, M: MakeSession<T>>()
     ensures { PacketsAreDetermined M.told }
 {}
 
-/// What a job's coder took before it failed are, tries aside, the first commands of the plan of the job's first frames, as many
-/// as were accepted by then, where the first alone is decided to be a key.
+/// What a job's coder took before it failed are, tries aside, the first commands of the plan of the job's frames, where the first
+/// frame alone is decided to be a key. The frames fit the settings, and are no more than a session accepts.
 pub fn faults_are_on_the_plan<T, M: MakeSession<T>>()
     ensures { FaultsAreOnThePlan M.told }
 {}
