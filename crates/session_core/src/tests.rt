@@ -4,6 +4,7 @@ ghost use Rattle.coding_base.specs.Faults.{HasCause};
 ghost use Rattle.session_core.specs.declared.coder.CoderError.TheVariants.{Failed};
 
 mod contexts;
+mod rows;
 
 use super::*;
 use av1_frame::{ChromaSampling, Frame};
@@ -13,6 +14,7 @@ use av1_settings::{
 };
 use coding_base::{Bytes, OutOfMemory};
 use pyramid::Command;
+use rows::{ROWS, Row};
 use std::alloc::Global;
 use std::sync::Arc;
 use std::test::Fail;
@@ -24,20 +26,22 @@ const ENCODED: usize = 1;
 
 const LIMIT_REACHED: usize = 2;
 
-/// Fails its call number `fails`.
+/// Fails its call number `fails`, and notes the metadata of each frame that it codes.
 #[derive(Drop)]
 struct SizedCoder {
     calls: u64,
     fails: u64,
     faults: u64,
+    notes: Vec<Arc<T35List>>,
 }
 
 impl SizedCoder {
-    fn new(fails: u64) -> SizedCoder {
+    fn new(alloc: Global, fails: u64) -> SizedCoder {
         SizedCoder {
             calls: 0,
             fails,
             faults: 0,
+            notes: Vec::new(alloc),
         }
     }
 
@@ -63,6 +67,10 @@ impl FrameCoder<u16> for SizedCoder {
 
     fn code(&mut self, alloc: Global, job: &CodeJob<u16>) -> Result<CodedFrame<u16>, CoderError> {
         self.counts()?;
+        let list = Arc::try_clone(&job.t35)?;
+        if self.notes.push(list).is_err() {
+            return Err(CoderError::OutOfMemory);
+        }
         let size = match job.command {
             Command::Code {
                 kind: FrameType::KEY,
@@ -97,23 +105,14 @@ impl FrameCoder<u16> for SizedCoder {
     }
 }
 
-/// Finds scenes at two positions, finds no memory from its question number `fails` on, and notes of each answer the
-/// position, the last key, the number of frames and the mode.
+/// Finds scenes at two positions, finds no memory from its question number `fails` on, and notes of each answer in its mode
+/// the position, the last key and the number of frames.
 #[derive(Drop)]
 struct NotingDetector {
+    mode: SceneDetectionSpeed,
     cuts: [u64; 2],
     fails: usize,
-    notes: Vec<(u64, u64, usize, SceneDetectionSpeed)>,
-}
-
-impl NotingDetector {
-    fn new(alloc: Global, cuts: [u64; 2], fails: usize) -> NotingDetector {
-        NotingDetector {
-            cuts,
-            fails,
-            notes: Vec::new(alloc),
-        }
-    }
+    notes: Vec<(u64, u64, usize)>,
 }
 
 impl Detector<u16> for NotingDetector {
@@ -130,7 +129,9 @@ impl Detector<u16> for NotingDetector {
         if self.notes.len() >= self.fails {
             return Err(OutOfMemory);
         }
-        self.notes.push((position, last_key, frames.len(), mode))?;
+        if mode == self.mode {
+            self.notes.push((position, last_key, frames.len()))?;
+        }
         Ok(position == self.cuts[0] || position == self.cuts[1])
     }
 }
@@ -165,26 +166,7 @@ fn settings(interval: u64, rdo: usize) -> EncoderConfig {
     enc
 }
 
-fn run(
-    alloc: Global,
-    enc: EncoderConfig,
-    coder: &mut SizedCoder,
-    calls: Vec<Call<u16, u64>>,
-) -> Result<Transcript<u16, u64>, SessionError> {
-    run_with(alloc, enc, &mut NoDetector, coder, calls)
-}
-
-fn run_with<D: Detector<u16>>(
-    alloc: Global,
-    enc: EncoderConfig,
-    detector: &mut D,
-    coder: &mut SizedCoder,
-    calls: Vec<Call<u16, u64>>,
-) -> Result<Transcript<u16, u64>, SessionError> {
-    run_scaled(alloc, enc, detector, &mut NoScale, coder, calls)
-}
-
-fn run_scaled<D: Detector<u16>, S: MeanScale<u16>>(
+fn run<D: Detector<u16>, S: MeanScale<u16>>(
     alloc: Global,
     enc: EncoderConfig,
     detector: &mut D,
@@ -192,11 +174,10 @@ fn run_scaled<D: Detector<u16>, S: MeanScale<u16>>(
     coder: &mut SizedCoder,
     calls: Vec<Call<u16, u64>>,
 ) -> Result<Transcript<u16, u64>, SessionError> {
-    let cfg = Config::new().with_encoder_config(enc);
     let tables = tables().ok_or(SessionError::OutOfMemory)?;
     run_session(
         alloc,
-        &cfg,
+        &Config::new().with_encoder_config(enc),
         &no_levels(),
         &tables,
         detector,
@@ -206,6 +187,22 @@ fn run_scaled<D: Detector<u16>, S: MeanScale<u16>>(
     )
 }
 
+fn picture(alloc: Global) -> Result<Arc<Frame<u16>>, OutOfMemory> {
+    Ok(Arc::new(alloc, Frame::new(alloc, 64, 80, ChromaSampling::Cs420)?)?)
+}
+
+// What is sent with a frame of this number.
+fn parameters(alloc: Global, number: u64, forced: bool) -> FrameParameters<u64> {
+    FrameParameters {
+        frame_type_override: match forced {
+            true => FrameTypeOverride::Key,
+            false => FrameTypeOverride::No,
+        },
+        opaque: Some(number),
+        t35_metadata: T35List::new(alloc),
+    }
+}
+
 // In each round so many sends and then so many receives; then a flush, and receives.
 // The frame `forced` is sent as a key.
 fn calls_of(
@@ -213,25 +210,14 @@ fn calls_of(
     forced: u64,
     rounds: &[(u64, u64)],
     receives: u64,
-) -> Result<Vec<Call<u16, u64>>, SessionError> {
+) -> Result<Vec<Call<u16, u64>>, OutOfMemory> {
     let mut calls = Vec::new(alloc);
-    let picture = Arc::new(alloc, Frame::new(alloc, 64, 80, ChromaSampling::Cs420)?)?;
+    let picture = picture(alloc)?;
     let mut number: u64 = 0;
     for (sends, between) in rounds {
         for _ in 0..*sends {
-            let frame_type_override = if number > 0 && number == forced {
-                FrameTypeOverride::Key
-            } else {
-                FrameTypeOverride::No
-            };
-            calls.push(Call::Send(
-                Arc::try_clone(&picture)?,
-                Some(FrameParameters {
-                    frame_type_override,
-                    opaque: Some(number),
-                    t35_metadata: T35List::new(alloc),
-                }),
-            ))?;
+            let sent = parameters(alloc, number, number > 0 && number == forced);
+            calls.push(Call::Send(Arc::try_clone(&picture)?, Some(sent)))?;
             number = number.saturating_add(1);
         }
         for _ in 0..*between {
@@ -245,178 +231,152 @@ fn calls_of(
     Ok(calls)
 }
 
-// The replies to the receives; a packet with another frame's value is none.
-fn received(alloc: Global, transcript: &Transcript<u16, u64>) -> Result<Vec<usize>, SessionError> {
-    let mut sizes = Vec::new(alloc);
+// The reply to a receive; a packet with another frame's value is none.
+fn told(reply: &Reply<u16, u64>) -> Option<usize> {
+    match reply {
+        Reply::Packet(packet) if packet.opaque == Some(packet.input_frameno) => {
+            Some(packet.bytes.len())
+        }
+        Reply::Status(EncoderStatus::NeedMoreData) => Some(NEED_MORE_DATA),
+        Reply::Status(EncoderStatus::Encoded) => Some(ENCODED),
+        Reply::Status(EncoderStatus::LimitReached) => Some(LIMIT_REACHED),
+        _ => None,
+    }
+}
+
+fn agrees<T: PartialEq>(seen: &[T], wanted: Option<&[T]>) -> bool {
+    match wanted {
+        Some(wanted) => seen == wanted,
+        None => true,
+    }
+}
+
+// Whether the turns are those of a row, and no reservoir is told.
+fn has_turns(
+    alloc: Global,
+    row: &Row,
+    transcript: &Transcript<u16, u64>,
+) -> Result<bool, OutOfMemory> {
+    let mut replies = Vec::new(alloc);
+    let mut indices = Vec::new(alloc);
     for turn in transcript.turns.as_slice() {
-        match &turn.reply {
-            Reply::Packet(packet) => {
-                if packet.opaque == Some(packet.input_frameno) {
-                    sizes.push(packet.bytes.len())?;
-                }
-            }
-            Reply::Status(EncoderStatus::NeedMoreData) => sizes.push(NEED_MORE_DATA)?,
-            Reply::Status(EncoderStatus::Encoded) => sizes.push(ENCODED)?,
-            Reply::Status(EncoderStatus::LimitReached) => sizes.push(LIMIT_REACHED)?,
-            _ => {}
+        if turn.reservoir.is_some() {
+            return Ok(false);
+        }
+        if let Some(size) = told(&turn.reply) {
+            replies.push(size)?;
+        }
+        if let Reply::Packet(packet) = &turn.reply {
+            indices.push(packet.qp)?;
         }
     }
-    Ok(sizes)
+    Ok(agrees(replies.as_slice(), row.replies) && agrees(indices.as_slice(), row.indices))
 }
 
-fn replies(
+fn has_keys(
     alloc: Global,
-    enc: EncoderConfig,
-    forced: u64,
-    rounds: &[(u64, u64)],
-    receives: u64,
-) -> Result<Vec<usize>, SessionError> {
-    let mut coder = SizedCoder::new(99);
-    let calls = calls_of(alloc, forced, rounds, receives)?;
-    let transcript = run(alloc, enc, &mut coder, calls)?;
-    received(alloc, &transcript)
-}
-
-#[test]
-fn receives_give_what_is_known(rt: HostRuntime) -> Result<(), Fail> {
-    let alloc = rt.alloc();
-
-    // Nothing sent; ten frames behind the flush.
-    let none = replies(alloc, settings(100, 1), 0, &[], 1)?;
-    assert_eq!(rt; none.as_slice(), [2].as_slice());
-    let late = replies(alloc, settings(5, 1), 0, &[(10, 0)], 15)?;
-    assert_eq!(rt;
-        late.as_slice(),
-        [102, 1, 1, 62, 5, 22, 5, 102, 1, 1, 62, 5, 22, 5, 2].as_slice()
-    );
-
-    // A lookahead of 8 coded frames, and one longer than the session.
-    let early = replies(alloc, settings(100, 8), 0, &[(14, 1), (1, 2)], 1)?;
-    assert_eq!(rt; early.as_slice(), [0, 102, 0, 1].as_slice());
-    let long = replies(alloc, settings(100, 100), 0, &[(12, 2)], 3)?;
-    assert_eq!(rt; long.as_slice(), [0, 0, 102, 1, 1].as_slice());
-
-    // A receive behind each send.
-    let keys = replies(alloc, settings(1, 1), 0, &[(1, 1); 14], 11)?;
-    let wanted = [
-        0, 0, 0, 0, 0, 0, 0, 0, 0, 0, 102, 102, 102, 102, 102, 102, 102, 102, 102, 102, 102, 102,
-        102, 102, 2,
-    ];
-    assert_eq!(rt; keys.as_slice(), wanted.as_slice());
-    let pairs = replies(alloc, settings(2, 1), 0, &[(1, 1); 16], 14)?;
-    let wanted = [
-        0, 0, 0, 0, 0, 0, 0, 0, 0, 0, 102, 0, 0, 0, 22, 102, 22, 102, 22, 102, 22, 102, 22, 102,
-        22, 102, 22, 102, 22, 2,
-    ];
-    assert_eq!(rt; pairs.as_slice(), wanted.as_slice());
-    Ok(())
-}
-
-#[test]
-fn a_key_sent_at_the_edge_of_what_is_decided(rt: HostRuntime) -> Result<(), Fail> {
-    let alloc = rt.alloc();
-
-    // Of 11 frames position 4 is decided, and position 5 isn't.
-    let decided = replies(alloc, settings(100, 1), 4, &[(11, 5)], 13)?;
-    assert_eq!(rt;
-        decided.as_slice(),
-        [
-            102, 1, 42, 0, 0, 5, 22, 102, 1, 1, 62, 5, 22, 5, 1, 42, 5, 2
-        ]
-        .as_slice()
-    );
-    let undecided = replies(alloc, settings(100, 1), 5, &[(11, 5)], 12)?;
-    assert_eq!(rt;
-        undecided.as_slice(),
-        [102, 1, 1, 62, 0, 5, 22, 5, 102, 1, 1, 62, 5, 22, 5, 22, 2].as_slice()
-    );
-    Ok(())
-}
-
-// The positions asked of, with the last key and the number of frames.
-fn questions(
-    alloc: Global,
-    enc: EncoderConfig,
-    cuts: [u64; 2],
-    forced: u64,
-    rounds: &[(u64, u64)],
-) -> Result<Vec<(u64, u64, usize)>, SessionError> {
-    let mut detector = NotingDetector::new(alloc, cuts, 99);
-    let calls = calls_of(alloc, forced, rounds, 2)?;
-    run_with(alloc, enc, &mut detector, &mut SizedCoder::new(99), calls)?;
-    let mut asked = Vec::new(alloc);
-    for (position, last_key, frames, mode) in &detector.notes {
-        if *mode == enc.speed_settings.scene_detection_mode {
-            asked.push((*position, *last_key, *frames))?;
-        }
-    }
-    Ok(asked)
-}
-
-#[test]
-fn the_detector_is_asked_once_of_each_position(rt: HostRuntime) -> Result<(), Fail> {
-    let alloc = rt.alloc();
-
-    // Positions 1 to 3 are decided in the sends of frames 7 to 9, 3 being sent as a key; the flush decides the others.
-    let asked = questions(
-        alloc,
-        settings(100, 1),
-        [2, 7],
-        3,
-        &[(8, 1), (1, 1), (1, 1)],
-    )?;
-    let wanted: [(u64, u64, usize); 8] = [
-        (1, 0, 8),
-        (2, 0, 8),
-        (4, 3, 7),
-        (5, 3, 6),
-        (6, 3, 5),
-        (7, 3, 4),
-        (8, 7, 3),
-        (9, 7, 2),
-    ];
-    assert_eq!(rt; asked.as_slice(), wanted.as_slice());
-
-    // A GOP that the interval begins is no decided key; at depth 0 three frames are kept behind a position.
-    let mut enc = settings(2, 1);
-    enc.low_latency = true;
-    enc.speed_settings.scene_detection_mode = SceneDetectionSpeed::Fast;
-    let low = questions(alloc, enc, [4, 4], 0, &[(6, 1)])?;
-    let wanted: [(u64, u64, usize); 5] = [(1, 0, 5), (2, 0, 5), (3, 0, 4), (4, 0, 3), (5, 4, 2)];
-    assert_eq!(rt; low.as_slice(), wanted.as_slice());
-    let none = questions(alloc, settings(100, 1), [1, 1], 0, &[(1, 0)])?;
-    assert_eq!(rt; none.len(), 0);
-    Ok(())
-}
-
-#[test]
-fn a_scene_begins_a_gop(rt: HostRuntime) -> Result<(), Fail> {
-    let alloc = rt.alloc();
-    let mut detector = NotingDetector::new(alloc, [3, 0], 99);
-    let mut coder = SizedCoder::new(99);
-    let calls = calls_of(alloc, 0, &[(5, 0)], 6)?;
-    let transcript = run_with(alloc, settings(100, 1), &mut detector, &mut coder, calls)?;
-    let sizes = received(alloc, &transcript)?;
-    assert_eq!(rt; sizes.as_slice(), [102, 1, 42, 5, 102, 22].as_slice());
+    row: &Row,
+    transcript: &Transcript<u16, u64>,
+) -> Result<bool, OutOfMemory> {
     let mut keys = Vec::new(alloc);
     for decision in transcript.decisions.as_slice() {
         keys.push(decision.key)?;
     }
-    assert_eq!(rt; keys.as_slice(), [false, false, true, false].as_slice());
+    Ok(agrees(keys.as_slice(), row.keys))
+}
+
+// Whether a session answers as its row.
+fn row_holds(alloc: Global, row: &Row) -> Result<bool, SessionError> {
+    let mut enc = settings(row.interval, row.rdo);
+    if row.low_latency {
+        enc.low_latency = true;
+        enc.speed_settings.scene_detection_mode = SceneDetectionSpeed::Fast;
+    }
+    let mut detector = NotingDetector {
+        mode: enc.speed_settings.scene_detection_mode,
+        cuts: row.cuts,
+        fails: 99,
+        notes: Vec::new(alloc),
+    };
+    let mut coder = SizedCoder::new(alloc, 99);
+    let calls = calls_of(alloc, row.forced, row.rounds, row.receives)?;
+    let transcript = run(alloc, enc, &mut detector, &mut NoScale, &mut coder, calls)?;
+    let turns = has_turns(alloc, row, &transcript)?;
+    let keys = has_keys(alloc, row, &transcript)?;
+    Ok(turns && keys && agrees(detector.notes.as_slice(), row.questions))
+}
+
+#[test]
+fn sessions_answer_as_their_rows(rt: HostRuntime) -> Result<(), Fail> {
+    for row in &ROWS {
+        let name = row.name;
+        assert!(rt; row_holds(rt.alloc(), row)?, "{name}");
+    }
     Ok(())
 }
 
 #[test]
-fn a_detector_without_memory_ends_the_session(rt: HostRuntime) -> Result<(), Fail> {
+fn each_refusal_has_its_answer(rt: HostRuntime) -> Result<(), Fail> {
     let alloc = rt.alloc();
-    let mut detector = NotingDetector::new(alloc, [0, 0], 2);
-    let mut coder = SizedCoder::new(99);
-    let calls = calls_of(alloc, 0, &[(8, 1), (2, 1)], 9)?;
-    match run_with(alloc, settings(100, 1), &mut detector, &mut coder, calls) {
-        Err(error) => assert_eq!(rt; error, SessionError::OutOfMemory),
-        Ok(_) => assert!(rt; false, "it was answered"),
+    for (width, bitrate, fails, asked, (between, receives), wanted, text) in [
+        (
+            15,
+            0,
+            99,
+            99,
+            (0, 15),
+            SessionError::Invalid(InvalidConfig::InvalidWidth(15)),
+            "invalid configuration: invalid width 15 (expected >= 16, <= 65535)",
+        ),
+        (
+            64,
+            30000,
+            1,
+            99,
+            (0, 15),
+            SessionError::CoderFault { command: 0 },
+            "the coder failed at command 0",
+        ),
+        (
+            64,
+            0,
+            3,
+            99,
+            (0, 15),
+            SessionError::CoderFault { command: 3 },
+            "the coder failed at command 3",
+        ),
+        (
+            64,
+            0,
+            99,
+            2,
+            (1, 9),
+            SessionError::OutOfMemory,
+            "out of memory",
+        ),
+    ] {
+        let mut enc = settings(100, 1);
+        enc.width = width;
+        enc.bitrate = bitrate;
+        let mut detector = NotingDetector {
+            mode: enc.speed_settings.scene_detection_mode,
+            cuts: [0, 0],
+            fails: asked,
+            notes: Vec::new(alloc),
+        };
+        let mut coder = SizedCoder::new(alloc, fails);
+        let calls = calls_of(alloc, 0, &[(8, between), (2, between)], receives)?;
+        match run(alloc, enc, &mut detector, &mut NoScale, &mut coder, calls) {
+            Err(error) => {
+                assert_eq!(rt; error, wanted);
+                assert_eq!(rt; error.to_string(alloc)?.as_str(), text);
+            }
+            Ok(_) => assert!(rt; false, "it was answered"),
+        }
+        assert_eq!(rt; coder.faults(), (fails != 99) as u64);
+        assert!(rt; asked == 99 || detector.notes.len() == 2);
     }
-    assert_eq!(rt; detector.notes.len(), 2);
     Ok(())
 }
 
@@ -430,8 +390,8 @@ fn refused_frames_change_nothing(rt: HostRuntime) -> Result<(), Fail> {
     calls.append(&mut calls_of(alloc, 0, &[(1, 0)], 1)?)?;
     let mut enc = settings(100, 1);
     enc.still_picture = true;
-    let mut coder = SizedCoder::new(99);
-    let transcript = run(alloc, enc, &mut coder, calls)?;
+    let mut coder = SizedCoder::new(alloc, 99);
+    let transcript = run(alloc, enc, &mut NoDetector, &mut NoScale, &mut coder, calls)?;
     let mut statuses = Vec::new(alloc);
     for turn in transcript.turns.as_slice() {
         if let Reply::Status(status) = &turn.reply {
@@ -453,32 +413,19 @@ fn refused_frames_change_nothing(rt: HostRuntime) -> Result<(), Fail> {
     Ok(())
 }
 
-#[test]
-fn packets_say_what_they_are(rt: HostRuntime) -> Result<(), Fail> {
-    let alloc = rt.alloc();
-    let mut coder = SizedCoder::new(99);
-    let calls = calls_of(alloc, 0, &[(3, 0)], 4)?;
-    let transcript = run(alloc, settings(100, 1), &mut coder, calls)?;
-    let mut texts = String::new(alloc);
+// How many pairs of packets are equal.
+fn pairs_alike(transcript: &Transcript<u16, u64>) -> u64 {
     let mut alike: u64 = 0;
     for turn in transcript.turns.as_slice() {
-        if let Reply::Packet(packet) = &turn.reply {
-            writeln!(&mut texts, "{packet}")?;
-            for other in transcript.turns.as_slice() {
-                if let Reply::Packet(second) = &other.reply {
-                    if *packet == *second {
-                        alike = alike.saturating_add(1);
-                    }
+        for other in transcript.turns.as_slice() {
+            if let (Reply::Packet(packet), Reply::Packet(second)) = (&turn.reply, &other.reply) {
+                if *packet == *second {
+                    alike = alike.saturating_add(1);
                 }
             }
         }
     }
-    assert_eq!(rt;
-        texts.as_str(),
-        "Frame 0 - Key frame - 102 bytes\nFrame 1 - Inter frame - 42 bytes\nFrame 2 - Inter frame - 5 bytes\n"
-    );
-    assert_eq!(rt; alike, 3);
-    Ok(())
+    alike
 }
 
 /// Gives a scale that is far too large, and notes the numbers of the frames.
@@ -502,16 +449,37 @@ impl MeanScale<u16> for LargeScales {
 }
 
 #[test]
+fn packets_say_what_they_are(rt: HostRuntime) -> Result<(), Fail> {
+    let alloc = rt.alloc();
+    let mut coder = SizedCoder::new(alloc, 99);
+    let calls = calls_of(alloc, 0, &[(3, 0)], 4)?;
+    let enc = settings(100, 1);
+    let transcript = run(alloc, enc, &mut NoDetector, &mut NoScale, &mut coder, calls)?;
+    let mut texts = String::new(alloc);
+    for turn in transcript.turns.as_slice() {
+        if let Reply::Packet(packet) = &turn.reply {
+            writeln!(&mut texts, "{packet}")?;
+        }
+    }
+    assert_eq!(rt;
+        texts.as_str(),
+        "Frame 0 - Key frame - 102 bytes\nFrame 1 - Inter frame - 42 bytes\nFrame 2 - Inter frame - 5 bytes\n"
+    );
+    assert_eq!(rt; pairs_alike(&transcript), 3);
+    Ok(())
+}
+
+#[test]
 fn a_bitrate_is_followed(rt: HostRuntime) -> Result<(), Fail> {
     let alloc = rt.alloc();
     let mut enc = settings(240, 1);
     enc.bitrate = 30000;
-    let mut coder = SizedCoder::new(99);
+    let mut coder = SizedCoder::new(alloc, 99);
     let mut scales = LargeScales {
         numbers: Vec::new(alloc),
     };
     let calls = calls_of(alloc, 0, &[(1, 0)], 1)?;
-    let transcript = run_scaled(alloc, enc, &mut NoDetector, &mut scales, &mut coder, calls)?;
+    let transcript = run(alloc, enc, &mut NoDetector, &mut scales, &mut coder, calls)?;
     let mut entries = Vec::new(alloc);
     let mut reservoirs = Vec::new(alloc);
     for turn in transcript.turns.as_slice() {
@@ -535,66 +503,20 @@ fn a_bitrate_is_followed(rt: HostRuntime) -> Result<(), Fail> {
 }
 
 #[test]
-fn quantisers_without_a_bitrate(rt: HostRuntime) -> Result<(), Fail> {
-    let alloc = rt.alloc();
-    let mut coder = SizedCoder::new(99);
-    let calls = calls_of(alloc, 0, &[(5, 0)], 7)?;
-    let transcript = run(alloc, settings(240, 1), &mut coder, calls)?;
-    let mut indices = Vec::new(alloc);
-    for turn in transcript.turns.as_slice() {
-        assert!(rt; turn.reservoir.is_none());
-        if let Reply::Packet(packet) = &turn.reply {
-            indices.push(packet.qp)?;
-        }
-    }
-    assert_eq!(rt; indices.as_slice(), [76, 196, 148, 196, 111].as_slice());
-    Ok(())
-}
-
-#[test]
-fn each_refusal_has_its_answer(rt: HostRuntime) -> Result<(), Fail> {
-    let alloc = rt.alloc();
-    for (width, bitrate, fails, wanted, text) in [
-        (
-            15,
-            0,
-            99,
-            SessionError::Invalid(InvalidConfig::InvalidWidth(15)),
-            "invalid configuration: invalid width 15 (expected >= 16, <= 65535)",
-        ),
-        (
-            64,
-            30000,
-            1,
-            SessionError::CoderFault { command: 0 },
-            "the coder failed at command 0",
-        ),
-        (
-            64,
-            0,
-            3,
-            SessionError::CoderFault { command: 3 },
-            "the coder failed at command 3",
-        ),
-    ] {
-        let mut enc = settings(100, 1);
-        enc.width = width;
-        enc.bitrate = bitrate;
-        let mut coder = SizedCoder::new(fails);
-        match run(alloc, enc, &mut coder, calls_of(alloc, 0, &[(10, 0)], 15)?) {
-            Err(error) => {
-                assert_eq!(rt; error, wanted);
-                assert_eq!(rt; error.to_string(alloc)?.as_str(), text);
-            }
-            Ok(_) => assert!(rt; false, "it was answered"),
-        }
-        assert_eq!(rt; coder.faults(), (fails != 99) as u64);
-    }
-    let memory = SessionError::OutOfMemory.to_string(alloc)?;
-    assert_eq!(rt; memory.as_str(), "out of memory");
-    let failed = CoderError::Failed.to_string(alloc)?;
-    assert_eq!(rt; failed.as_str(), "the coder failed");
-    let coder_memory = CoderError::OutOfMemory.to_string(alloc)?;
-    assert_eq!(rt; coder_memory.as_str(), "out of memory");
+fn errors_have_their_texts(rt: HostRuntime) -> Result<(), Fail> {
+    let texts = format!(in rt.alloc();
+        "{}, {}, {}, {}, {}, {}, {}",
+        SessionFault::Coder { command: 3 },
+        SessionFault::OutOfMemory,
+        SetupError::Invalid(InvalidConfig::InvalidWidth(15)),
+        SetupError::OutOfMemory,
+        SetupError::Unbuilt,
+        CoderError::Failed,
+        CoderError::OutOfMemory
+    )?;
+    assert_eq!(rt;
+        texts.as_str(),
+        "the coder failed at command 3, out of memory, invalid configuration: invalid width 15 (expected >= 16, <= 65535), out of memory, sessions in two passes aren't built yet, the coder failed, out of memory"
+    );
     Ok(())
 }

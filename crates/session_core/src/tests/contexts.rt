@@ -1,145 +1,70 @@
 // Sessions that are called one call at a time.
-ghost use Rattle.std.specs.Prelude.{None};
-ghost use Rattle.coding_base.specs.Faults.{HasCause};
-ghost use Rattle.session_core.specs.declared.coder.CoderError.TheVariants.{Failed};
-
 use super::*;
 use av1_settings::RateControlConfig;
 use std::process::Abort;
 
-type Frames<O> = Context<u16, O, NoDetector, NoScale, SizedCoder>;
+type Frames = Context<u16, u64, NoDetector, NoScale, SizedCoder>;
+
+type Inner = ContextInner<u16, u64, NoDetector, NoScale, SizedCoder>;
 
 // A session that hasn't begun; its coder's call number `fails` fails.
-fn context<O: Drop>(
+fn context(
     alloc: Global,
     enc: EncoderConfig,
+    rate_control: RateControlConfig,
     fails: u64,
-) -> Result<Frames<O>, SetupError> {
+) -> Result<Frames, SetupError> {
     let tables = tables().ok_or(SetupError::OutOfMemory)?;
-    Config::new().with_encoder_config(enc).new_context(
+    Config::new()
+        .with_encoder_config(enc)
+        .with_rate_control(rate_control)
+        .new_context(
+            alloc,
+            &no_levels(),
+            &tables,
+            NoDetector,
+            NoScale,
+            SizedCoder::new(alloc, fails),
+        )
+}
+
+fn inner(alloc: Global, enc: EncoderConfig) -> Result<Inner, SetupError> {
+    let tables = tables().ok_or(SetupError::OutOfMemory)?;
+    ContextInner::new(
         alloc,
+        &Config::new().with_encoder_config(enc),
         &no_levels(),
         &tables,
         NoDetector,
         NoScale,
-        SizedCoder::new(fails),
+        SizedCoder::new(alloc, 99),
     )
-}
-
-fn picture(alloc: Global) -> Result<Arc<Frame<u16>>, OutOfMemory> {
-    Ok(Arc::new(alloc, Frame::new(alloc, 64, 80, ChromaSampling::Cs420)?)?)
-}
-
-fn parameters<O>(
-    alloc: Global,
-    frame_type_override: FrameTypeOverride,
-    opaque: Option<O>,
-) -> FrameParameters<O> {
-    FrameParameters {
-        frame_type_override,
-        opaque,
-        t35_metadata: T35List::new(alloc),
-    }
-}
-
-// Sends frames without parameters.
-fn send(alloc: Global, context: &mut Frames<u64>, count: u64) -> Result<(), EncoderStatus> {
-    for _ in 0..count {
-        match picture(alloc) {
-            Ok(picture) => context.send_frame(alloc, picture)?,
-            Err(OutOfMemory) => return Err(EncoderStatus::OutOfMemory),
-        }
-    }
-    Ok(())
-}
-
-// The number of a packet's frame, or why there is none.
-fn received<O: Drop>(alloc: Global, context: &mut Frames<O>) -> Result<u64, EncoderStatus> {
-    Ok(context.receive_packet(alloc)?.input_frameno)
 }
 
 #[test]
 fn a_failed_context_answers_failure(rt: HostRuntime) -> Result<(), Fail> {
     let alloc = rt.alloc();
-    let mut context = context::<u64>(alloc, settings(5, 10), 0)?;
-    assert_eq!(rt; context.send_frame(alloc, picture(alloc)?), Ok(()));
-    assert_eq!(rt; context.flush(alloc), Ok(()));
-    assert_eq!(rt; context.failure(), None);
-    assert_eq!(rt; received(alloc, &mut context), Err(EncoderStatus::Failure));
-    let cause = Some(SessionFault::Coder { command: 0 });
-    assert_eq!(rt; context.failure(), cause);
-    assert_eq!(rt;
-        context.send_frame(alloc, picture(alloc)?),
-        Err(EncoderStatus::Failure)
-    );
-    assert_eq!(rt; context.flush(alloc), Err(EncoderStatus::Failure));
-    assert_eq!(rt; received(alloc, &mut context), Err(EncoderStatus::Failure));
-    assert_eq!(rt; context.failure(), cause);
+    let picture = picture(alloc)?;
+    let mut context = context(alloc, settings(5, 10), RateControlConfig::new(), 0)?;
+    // Two rounds, the second in a session that has failed.
+    let failed = Err(EncoderStatus::Failure);
+    let mut answer = Ok(());
+    let mut failure = None;
+    for _ in 0..2 {
+        let sent = context.send_frame(alloc, Arc::try_clone(&picture)?);
+        assert_eq!(rt; sent, answer);
+        assert_eq!(rt; context.flush(alloc), answer);
+        assert_eq!(rt; context.failure(), failure);
+        let received = context.receive_packet(alloc);
+        assert_eq!(rt;
+            received.map(|packet| packet.input_frameno).err(),
+            Some(EncoderStatus::Failure)
+        );
+        answer = failed;
+        failure = Some(SessionFault::Coder { command: 0 });
+        assert_eq!(rt; context.failure(), failure);
+    }
     Ok(())
-}
-
-#[test]
-fn opaque_values_come_back_with_their_frames(rt: HostRuntime) -> Result<(), Fail> {
-    let alloc = rt.alloc();
-    let mut context = context::<bool>(alloc, settings(5, 10), 99)?;
-    for number in 0..5_u64 {
-        let forced = number == 3;
-        let wish = if forced {
-            FrameTypeOverride::Key
-        } else {
-            FrameTypeOverride::No
-        };
-        let input = (picture(alloc)?, parameters(alloc, wish, Some(forced)));
-        assert_eq!(rt; context.send_frame(alloc, input), Ok(()));
-    }
-    assert_eq!(rt; context.flush(alloc), Ok(()));
-    let mut values = Vec::new(alloc);
-    for _ in 0..7 {
-        if let Ok(packet) = context.receive_packet(alloc) {
-            values.push((packet.input_frameno, packet.opaque))?;
-        }
-    }
-    let wanted = [
-        (0, Some(false)),
-        (1, Some(false)),
-        (2, Some(false)),
-        (3, Some(true)),
-        (4, Some(false)),
-    ];
-    assert_eq!(rt; values.as_slice(), wanted.as_slice());
-    Ok(())
-}
-
-/// Notes the metadata of each frame that it codes, and codes it as a [`SizedCoder`] does.
-#[derive(Drop)]
-struct NotingCoder {
-    inner: SizedCoder,
-    notes: Vec<Arc<T35List>>,
-}
-
-impl FrameCoder<u16> for NotingCoder {
-    ghost told = { λ coder. record {
-      calls = None;
-      gives = None;
-      fails_after = None;
-      faults = coder.inner.faults;
-    } };
-
-    fn code(&mut self, alloc: Global, job: &CodeJob<u16>) -> Result<CodedFrame<u16>, CoderError> {
-        let list = Arc::try_clone(&job.t35)?;
-        if self.notes.push(list).is_err() {
-            return Err(CoderError::OutOfMemory);
-        }
-        self.inner.code(alloc, job)
-    }
-
-    fn show(&mut self, alloc: Global, slot: u8, frame: u64) -> Result<ShownFrame<u16>, CoderError> {
-        self.inner.show(alloc, slot, frame)
-    }
-
-    fn faults(&self) -> u64 {
-        self.inner.faults
-    }
 }
 
 // The metadata of one block.
@@ -153,260 +78,79 @@ fn ayaya(alloc: Global) -> Result<T35List, OutOfMemory> {
     Ok(list)
 }
 
-#[test]
-fn metadata_stays_with_its_frame(rt: HostRuntime) -> Result<(), Fail> {
-    let alloc = rt.alloc();
-    let coder = NotingCoder {
-        inner: SizedCoder::new(99),
-        notes: Vec::new(alloc),
-    };
-    let tables = tables().ok_or(SetupError::OutOfMemory)?;
-    let cfg = Config::new().with_encoder_config(settings(5, 10));
-    let mut context: ContextInner<u16, u64, NoDetector, NoScale, NotingCoder> = ContextInner::new(
-        alloc,
-        &cfg,
-        &no_levels(),
-        &tables,
-        NoDetector,
-        NoScale,
-        coder,
-    )?;
-    for _ in 0..2 {
-        let mut sent = parameters(alloc, FrameTypeOverride::No, None);
+// Sends frames with metadata; whether each is taken.
+fn takes_metadata(alloc: Global, context: &mut Inner, count: u64) -> Result<bool, OutOfMemory> {
+    let picture = picture(alloc)?;
+    for number in 0..count {
+        let mut sent = parameters(alloc, number, false);
         sent.t35_metadata = ayaya(alloc)?;
-        let answer = context.send_frame(alloc, Some(picture(alloc)?), Some(sent));
-        assert_eq!(rt; answer, Ok(()));
+        let answer = context.send_frame(alloc, Some(Arc::try_clone(&picture)?), Some(sent));
+        if answer.is_err() {
+            return Ok(false);
+        }
     }
-    assert_eq!(rt; context.flush(alloc), Ok(()));
-    for _ in 0..2 {
-        assert!(rt; context.receive_packet(alloc).is_ok());
+    Ok(true)
+}
+
+// Whether so many packets are given before the session is done.
+fn gives(alloc: Global, context: &mut Inner, count: u64) -> bool {
+    for _ in 0..count {
+        if context.done_processing() || context.receive_packet(alloc).is_err() {
+            return false;
+        }
     }
-    let coder = context.into_coder();
-    assert_eq!(rt; coder.notes.len(), 2);
+    context.done_processing()
+}
+
+// Whether each frame was coded with its one block.
+fn noted_metadata(coder: &SizedCoder) -> bool {
     for list in coder.notes.iter() {
-        assert_eq!(rt; list.len(), 1);
-        for block in list.as_slice() {
-            assert_eq!(rt; block.country_code, 255);
-            assert_eq!(rt; block.country_code_extension_byte, 0);
-            assert_eq!(rt; block.payload.as_slice(), b"AYAYA".as_slice());
+        match list.as_slice() {
+            [block]
+                if block.country_code == 255
+                    && block.country_code_extension_byte == 0
+                    && block.payload.as_slice() == b"AYAYA".as_slice() => {}
+            _ => return false,
         }
     }
-    Ok(())
+    true
 }
 
 #[test]
-fn a_context_of_the_defaults(rt: HostRuntime) -> Result<(), Fail> {
+fn a_session_keeps_metadata_and_says_of_itself(rt: HostRuntime) -> Result<(), Fail> {
     let alloc = rt.alloc();
-    let context = context::<u64>(alloc, EncoderConfig::default(), 99)?;
-    let frame = context.new_frame(alloc)?;
-    assert_eq!(rt; (frame.y.width, frame.y.height), (640, 480));
-    assert_eq!(rt; (frame.u.width, frame.u.height), (320, 240));
-    assert_eq!(rt; (frame.v.width, frame.v.height), (320, 240));
-    assert_eq!(rt;
-        context.container_sequence_header(),
-        [0x81, 0x1f, 0x0c, 0x00]
-    );
-    assert_eq!(rt; context.failure(), None);
-    Ok(())
-}
-
-// A summary of one temporal unit, with the bytes that stand before its 32 zeros.
-const SUMMARY: [u8; 36] = [
-    0x56, 0x41, 0x32, 0x50, 1, 0, 0, 0, 1, 0, 0, 0, 1, 0, 0, 0, 0, 0, 0, 0, 0, 0, 0, 0, 0, 0, 0, 0,
-    0, 0, 0, 0, 0x30, 0x45, 0x54, 0x57,
-];
-
-fn refusal(alloc: Global, bitrate: i32, rate_control: RateControlConfig) -> Option<SetupError> {
-    let tables = tables()?;
-    let mut enc = settings(5, 10);
-    enc.bitrate = bitrate;
-    let cfg = Config::new()
-        .with_encoder_config(enc)
-        .with_rate_control(rate_control);
-    let made: Result<Frames<u64>, SetupError> = cfg.new_context(
-        alloc,
-        &no_levels(),
-        &tables,
-        NoDetector,
-        NoScale,
-        SizedCoder::new(99),
-    );
-    made.err()
-}
-
-#[test]
-fn what_isnt_built_is_refused(rt: HostRuntime) -> Result<(), Fail> {
-    let alloc = rt.alloc();
-    let mut bytes = Vec::from_slice(alloc, &SUMMARY)?;
-    bytes.resize(68, 0)?;
-    let unbuilt = Some(SetupError::Unbuilt);
-    let invalid = Some(SetupError::Invalid(InvalidConfig::TargetBitrateNeeded));
-    assert_eq!(rt; refusal(alloc, 0, RateControlConfig::new()), None);
-    assert_eq!(rt; refusal(alloc, 30000, RateControlConfig::new()), None);
-    assert_eq!(rt;
-        refusal(alloc, 30000, RateControlConfig::new().with_emit_data(true)),
-        unbuilt
-    );
-    assert_eq!(rt;
-        refusal(alloc, 0, RateControlConfig::new().with_emit_data(true)),
-        invalid
-    );
-    match RateControlConfig::from_summary_slice(bytes.as_slice()) {
-        Ok(second) => assert_eq!(rt; refusal(alloc, 30000, second), unbuilt),
-        Err(_) => assert!(rt; false, "the summary is refused"),
+    for count in [1_u64, 2] {
+        let mut context = inner(alloc, settings(5, 10))?;
+        assert!(rt; context.needs_more_fi_lookahead());
+        assert!(rt; context.needs_more_frames(count));
+        assert!(rt; takes_metadata(alloc, &mut context, count)?);
+        assert_eq!(rt; context.flush(alloc), Ok(()));
+        assert!(rt; !context.needs_more_fi_lookahead());
+        assert!(rt; context.needs_more_frames(0) && !context.needs_more_frames(count));
+        assert!(rt; gives(alloc, &mut context, count));
+        assert_eq!(rt; context.failure(), None);
+        assert!(rt; context.rc().ready());
+        assert_eq!(rt;
+            context.container_sequence_header(),
+            [0x81, 0x1f, 0x0c, 0x00]
+        );
+        assert_eq!(rt; context.new_frame(alloc)?.y.width, 64);
+        let coder = context.into_coder();
+        assert_eq!(rt; (coder.calls, coder.notes.len()), (count, count as usize));
+        assert!(rt; noted_metadata(&coder));
     }
-    Ok(())
-}
-
-// Sends a frame, which is taken.
-fn takes<F: IntoFrame<u16, u64>>(
-    rt: &impl Abort,
-    alloc: Global,
-    context: &mut Frames<u64>,
-    frame: F,
-) {
-    assert_eq!(rt; context.send_frame(alloc, frame), Ok(()));
-}
-
-#[test]
-fn each_way_to_send_a_frame(rt: HostRuntime) -> Result<(), Fail> {
-    let alloc = rt.alloc();
-    let mut context = context::<u64>(alloc, settings(100, 1), 99)?;
-    let shared = picture(alloc)?;
-    let own = parameters(alloc, FrameTypeOverride::No, Some(1));
-    takes(&rt, alloc, &mut context, Arc::try_clone(&shared)?);
-    takes(&rt, alloc, &mut context, (Arc::try_clone(&shared)?, own));
-    let own = parameters(alloc, FrameTypeOverride::No, Some(2));
-    takes(
-        &rt,
-        alloc,
-        &mut context,
-        (Arc::try_clone(&shared)?, Some(own)),
-    );
-    let frame = context.new_frame(alloc)?;
-    takes(&rt, alloc, &mut context, frame);
-    let own = parameters(alloc, FrameTypeOverride::No, Some(4));
-    let frame = context.new_frame(alloc)?;
-    takes(&rt, alloc, &mut context, (frame, own));
-    let frame = context.new_frame(alloc)?;
-    takes(
-        &rt,
-        alloc,
-        &mut context,
-        (frame, None::<FrameParameters<u64>>),
-    );
-    takes(&rt, alloc, &mut context, None::<Arc<Frame<u16>>>);
-    let mut values = Vec::new(alloc);
-    for _ in 0..9 {
-        if let Ok(packet) = context.receive_packet(alloc) {
-            values.push(packet.opaque)?;
-        }
-    }
-    let wanted = [None, Some(1), Some(2), None, Some(4), None];
-    assert_eq!(rt; values.as_slice(), wanted.as_slice());
-    assert_eq!(rt;
-        received(alloc, &mut context),
-        Err(EncoderStatus::LimitReached)
-    );
-    Ok(())
-}
-
-#[test]
-fn what_a_session_says_of_itself(rt: HostRuntime) -> Result<(), Fail> {
-    let alloc = rt.alloc();
-    let tables = tables().ok_or(SetupError::OutOfMemory)?;
-    let cfg = Config::new().with_encoder_config(settings(5, 10));
-    let mut context: ContextInner<u16, u64, NoDetector, NoScale, SizedCoder> = ContextInner::new(
-        alloc,
-        &cfg,
-        &no_levels(),
-        &tables,
-        NoDetector,
-        NoScale,
-        SizedCoder::new(99),
-    )?;
-    assert!(rt; context.needs_more_fi_lookahead());
-    assert!(rt; context.needs_more_frames(1));
-    assert!(rt; !context.done_processing());
-    assert_eq!(rt;
-        context.send_frame(alloc, Some(picture(alloc)?), None),
-        Ok(())
-    );
-    assert_eq!(rt; context.flush(alloc), Ok(()));
-    assert!(rt; !context.needs_more_fi_lookahead());
-    assert!(rt; context.needs_more_frames(0));
-    assert!(rt; !context.needs_more_frames(1));
-    assert!(rt; !context.done_processing());
-    assert!(rt; context.receive_packet(alloc).is_ok());
-    assert!(rt; context.done_processing());
-    assert_eq!(rt; context.failure(), None);
-    assert_eq!(rt;
-        context.container_sequence_header(),
-        [0x81, 0x1f, 0x0c, 0x00]
-    );
-    assert_eq!(rt; context.new_frame(alloc)?.y.width, 64);
-    assert_eq!(rt; context.into_coder().calls, 1);
-    Ok(())
-}
-
-#[test]
-fn a_receive_needs_more_data_until_the_lookahead_is_full(rt: HostRuntime) -> Result<(), Fail> {
-    let alloc = rt.alloc();
-    let need_more_data = Err(EncoderStatus::NeedMoreData);
-    let mut enc = settings(240, 1);
-    enc.low_latency = true;
-    let mut low = context::<u64>(alloc, enc, 99)?;
-    assert_eq!(rt; send(alloc, &mut low, 4), Ok(()));
-    assert_eq!(rt; received(alloc, &mut low), need_more_data);
-    assert_eq!(rt; send(alloc, &mut low, 1), Ok(()));
-    assert_eq!(rt; received(alloc, &mut low), Ok(0));
-
-    let mut context = context::<u64>(alloc, settings(100, 8), 99)?;
-    assert_eq!(rt; send(alloc, &mut context, 14), Ok(()));
-    assert_eq!(rt; received(alloc, &mut context), need_more_data);
-    assert_eq!(rt; send(alloc, &mut context, 1), Ok(()));
-    assert_eq!(rt; received(alloc, &mut context), Ok(0));
-    assert_eq!(rt; received(alloc, &mut context), need_more_data);
-    Ok(())
-}
-
-#[test]
-fn texts_of_faults_and_refusals(rt: HostRuntime) -> Result<(), Fail> {
-    let alloc = rt.alloc();
-    let coder = SessionFault::Coder { command: 3 }.to_string(alloc)?;
-    assert_eq!(rt; coder.as_str(), "the coder failed at command 3");
-    let memory = SessionFault::OutOfMemory.to_string(alloc)?;
-    assert_eq!(rt; memory.as_str(), "out of memory");
-    let invalid = SetupError::Invalid(InvalidConfig::InvalidWidth(15)).to_string(alloc)?;
-    assert_eq!(rt;
-        invalid.as_str(),
-        "invalid configuration: invalid width 15 (expected >= 16, <= 65535)"
-    );
-    let memory = SetupError::OutOfMemory.to_string(alloc)?;
-    assert_eq!(rt; memory.as_str(), "out of memory");
-    let unbuilt = SetupError::Unbuilt.to_string(alloc)?;
-    assert_eq!(rt; unbuilt.as_str(), "sessions in two passes aren't built yet");
     Ok(())
 }
 
 #[test]
 fn frames_are_held_until_their_packets_are_given(rt: HostRuntime) -> Result<(), Fail> {
     let alloc = rt.alloc();
+    let picture = picture(alloc)?;
     let mut enc = settings(100, 1);
     enc.low_latency = true;
-    let tables = tables().ok_or(SetupError::OutOfMemory)?;
-    let cfg = Config::new().with_encoder_config(enc);
-    let mut session: ContextInner<u16, u64, NoDetector, NoScale, SizedCoder> = ContextInner::new(
-        alloc,
-        &cfg,
-        &no_levels(),
-        &tables,
-        NoDetector,
-        NoScale,
-        SizedCoder::new(99),
-    )?;
+    let mut session = inner(alloc, enc)?;
     for _ in 0..5 {
-        let sent = session.send_frame(alloc, Some(picture(alloc)?), None);
+        let sent = session.send_frame(alloc, Some(Arc::try_clone(&picture)?), None);
         assert_eq!(rt; sent, Ok(()));
     }
     assert_eq!(rt; session.frames_held(), 5);
@@ -417,5 +161,92 @@ fn frames_are_held_until_their_packets_are_given(rt: HostRuntime) -> Result<(), 
     assert_eq!(rt; received, Ok(0));
     assert_eq!(rt; session.frames_held(), 4);
     assert_eq!(rt; session.places_held(), 1);
+    Ok(())
+}
+
+// A summary of one temporal unit, with the bytes that stand before its 32 zeros.
+const SUMMARY: [u8; 36] = [
+    0x56, 0x41, 0x32, 0x50, 1, 0, 0, 0, 1, 0, 0, 0, 1, 0, 0, 0, 0, 0, 0, 0, 0, 0, 0, 0, 0, 0, 0, 0,
+    0, 0, 0, 0, 0x30, 0x45, 0x54, 0x57,
+];
+
+#[test]
+fn what_isnt_built_is_refused(rt: HostRuntime) -> Result<(), Fail> {
+    let alloc = rt.alloc();
+    let mut bytes = [0; 68];
+    bytes[..36].copy_from_slice(&SUMMARY);
+    let invalid = SetupError::Invalid(InvalidConfig::TargetBitrateNeeded);
+    for (bitrate, emits, second, wanted) in [
+        (0, false, false, None),
+        (30000, false, false, None),
+        (30000, true, false, Some(SetupError::Unbuilt)),
+        (0, true, false, Some(invalid)),
+        (30000, false, true, Some(SetupError::Unbuilt)),
+    ] {
+        let mut enc = settings(5, 10);
+        enc.bitrate = bitrate;
+        let rate_control = if second {
+            RateControlConfig::from_summary_slice(&bytes)?
+        } else {
+            RateControlConfig::new().with_emit_data(emits)
+        };
+        assert_eq!(rt; context(alloc, enc, rate_control, 99).err(), wanted);
+    }
+    Ok(())
+}
+
+// Sends a frame, which is taken.
+fn takes<F: IntoFrame<u16, u64>>(rt: &impl Abort, alloc: Global, context: &mut Frames, frame: F) {
+    assert_eq!(rt; context.send_frame(alloc, frame), Ok(()));
+}
+
+#[test]
+fn each_way_to_send_a_frame(rt: HostRuntime) -> Result<(), Fail> {
+    let alloc = rt.alloc();
+    let mut context = context(alloc, settings(100, 1), RateControlConfig::new(), 99)?;
+    let shared = picture(alloc)?;
+    takes(&rt, alloc, &mut context, Arc::try_clone(&shared)?);
+    let own = parameters(alloc, 1, false);
+    takes(&rt, alloc, &mut context, (Arc::try_clone(&shared)?, own));
+    let own = Some(parameters(alloc, 2, false));
+    takes(&rt, alloc, &mut context, (shared, own));
+    let frame = context.new_frame(alloc)?;
+    takes(&rt, alloc, &mut context, frame);
+    let own = parameters(alloc, 4, false);
+    let frame = context.new_frame(alloc)?;
+    takes(&rt, alloc, &mut context, (frame, own));
+    let none: Option<FrameParameters<u64>> = None;
+    let frame = context.new_frame(alloc)?;
+    takes(&rt, alloc, &mut context, (frame, none));
+    takes(&rt, alloc, &mut context, None::<Arc<Frame<u16>>>);
+    let mut values = Vec::new(alloc);
+    for _ in 0..9 {
+        if let Ok(packet) = context.receive_packet(alloc) {
+            values.push(packet.opaque)?;
+        }
+    }
+    let wanted = [None, Some(1), Some(2), None, Some(4), None];
+    assert_eq!(rt; values.as_slice(), wanted.as_slice());
+    let last = context
+        .receive_packet(alloc)
+        .map(|packet| packet.input_frameno);
+    assert_eq!(rt; last, Err(EncoderStatus::LimitReached));
+    Ok(())
+}
+
+#[test]
+fn a_context_of_the_defaults(rt: HostRuntime) -> Result<(), Fail> {
+    let alloc = rt.alloc();
+    let enc = EncoderConfig::default();
+    let context = context(alloc, enc, RateControlConfig::new(), 99)?;
+    let frame = context.new_frame(alloc)?;
+    assert_eq!(rt; (frame.y.width, frame.y.height), (640, 480));
+    assert_eq!(rt; (frame.u.width, frame.u.height), (320, 240));
+    assert_eq!(rt; (frame.v.width, frame.v.height), (320, 240));
+    assert_eq!(rt;
+        context.container_sequence_header(),
+        [0x81, 0x1f, 0x0c, 0x00]
+    );
+    assert_eq!(rt; context.failure(), None);
     Ok(())
 }
