@@ -4,6 +4,10 @@ pub mod Decisions
 pub mod Held
 pub mod Moments
 pub mod PacketText
+pub mod PassCalls
+pub mod PassSessions
+pub mod PassStates
+pub mod PassTurns
 pub mod Quantisers
 pub mod Questions
 pub mod Scales

@@ -1,5 +1,5 @@
--- With which quantisers a session codes: those that rate control selects at the entries before, by a guess of what comes
--- next that is made at the moment of the call.
+-- With which quantisers a session codes: those that rate control selects at the entries before and by what its passes hand on,
+-- with a guess of what comes next that is made at the moment of the call.
 use Rattle.std.specs.Prelude.{◌≡◌, ⊤, ℕ, List, [], ◌∷◌, ◌++◌, map, Option, None, Some, ℤ, pos, negsuc}
 use Rattle.std.specs.Int.{int_min}
 use Rattle.av1_settings.specs.declared.encoder.EncoderConfig.{EncoderConfig}
@@ -12,7 +12,7 @@ use Rattle.quantizers.specs.Tables.{Tables}
 use Rattle.quantizers.specs.declared.parameters.QuantizerParameters.{QuantizerParameters}
 use Rattle.rate_model.specs.Measure.{LAST_I32}
 use Rattle.ratecontrol.specs.declared.guess.Guess.{Guess}
-use Rattle.session_log.specs.Passes.{no_passes}
+use Rattle.session_log.specs.Passes.{Passes, passes_after}
 use Rattle.session_log.specs.declared.entry.LogEntry.{LogEntry}
 use Rattle.session_log.specs.Selection.{reservoir_after, selection}
 use Rattle.session_core.specs.declared.transcript.Turn.{Turn}
@@ -45,23 +45,30 @@ gop_start_at enc moment =
     gop_input_start (numbers_of enc) (interval_of enc.max_key_frame_interval) moment.accepted moment.flushed
     (keys_of moment.accepted moment.decisions) moment.commands
 
--- the quantisers of an entry, where `before` is the log before it; a show has none
-abbrev pub quantisers_at : {T O : Type 0} → EncoderConfig → Tables → Moment T O → List LogEntry → LogEntry → Option QuantizerParameters
-quantisers_at enc tables moment before entry =
+-- the quantisers of an entry, where `before` is the log before it and `passes` what its passes hand on; a show has none
+abbrev pub quantisers_at : {T O : Type 0} → EncoderConfig → Tables → Passes → Moment T O → List LogEntry → LogEntry → Option QuantizerParameters
+quantisers_at enc tables passes moment before entry =
     elim entry.command [
       | Code frame kind refs refresh shown ↦
-          Some (selection enc tables no_passes before (guess_at enc moment) (gop_start_at enc moment) entry.command entry.mean_scale)
+          Some (selection enc tables passes before (guess_at enc moment) (gop_start_at enc moment) entry.command entry.mean_scale)
       | Show slot ↦ None
     ]
 
+-- what the passes hand on behind entries, which stand behind the log `before`
+abbrev pub passes_behind : EncoderConfig → Passes → List LogEntry → List LogEntry → Passes
+passes_behind enc passes before [] = passes
+passes_behind enc passes before (entry ∷ entries) =
+    passes_behind enc (passes_after enc passes before entry) (before ++ entry ∷ []) entries
+
 -- each entry has the quantisers that are selected behind the log and the entries before it
-abbrev pub AreSelected : {T O : Type 0} → EncoderConfig → Tables → Moment T O → List LogEntry → List LogEntry → Type 0
-AreSelected enc tables moment before [] = ⊤
-AreSelected enc tables moment before (entry ∷ entries) =
-    (entry.quant ≡ quantisers_at enc tables moment before entry)
-    × AreSelected enc tables moment (before ++ entry ∷ []) entries
+abbrev pub AreSelected : {T O : Type 0} → EncoderConfig → Tables → Passes → Moment T O → List LogEntry → List LogEntry → Type 0
+AreSelected enc tables passes moment before [] = ⊤
+AreSelected enc tables passes moment before (entry ∷ entries) =
+    (entry.quant ≡ quantisers_at enc tables passes moment before entry)
+    × AreSelected enc tables (passes_after enc passes before entry) moment (before ++ entry ∷ []) entries
 
 -- the quantisers of what a turn coded, and what the reservoir holds then
-pub record IsQuantised {T O : Type 0} (enc : EncoderConfig) (tables : Tables) (moment : Moment T O) (turn : Turn T O) : Type 0 where
-  pub selected : AreSelected enc tables moment moment.log turn.log
-  pub reservoir : turn.reservoir ≡ reservoir_after enc no_passes (moment.log ++ turn.log)
+pub record IsQuantised {T O : Type 0} (enc : EncoderConfig) (tables : Tables) (passes : Passes) (moment : Moment T O) (turn : Turn T O) : Type 0 where
+  pub selected : AreSelected enc tables passes moment moment.log turn.log
+  pub reservoir : turn.reservoir
+      ≡ reservoir_after enc (passes_behind enc passes moment.log turn.log) (moment.log ++ turn.log)

@@ -15,6 +15,7 @@ use Rattle.session_core.specs.declared.call.Call.{Call}
 use Rattle.session_core.specs.declared.call.Call.TheVariants.{Send, Receive}
 use Rattle.session_core.specs.declared.packet.Packet.{Packet}
 use Rattle.session_core.specs.declared.transcript.Decision.{Decision}
+use Rattle.session_log.specs.Passes.{no_passes}
 use Rattle.session_log.specs.declared.entry.LogEntry.{LogEntry}
 use Rattle.session_core.specs.declared.transcript.Reply.{Reply}
 use Rattle.session_core.specs.declared.transcript.Reply.TheVariants.{Sent}
@@ -34,10 +35,10 @@ use Rattle.session_core.specs.Turns.{IsTurn, after_turn, accepted_of, luma_index
 abbrev pub AreTurns : {T O : Type 0} → EncoderConfig → List Decision → List (Call T O) → List (Turn T O) → Type 0
 AreTurns enc decisions calls turns = Runs (IsTurn enc decisions) (after_turn enc decisions) opening calls turns
 
--- the quantisers of each turn are those that are selected at its moment
+-- the quantisers of each turn are those that are selected at its moment, in one pass
 abbrev pub AreQuantised : {T O : Type 0} → EncoderConfig → Tables → List Decision → List (Call T O) → List (Turn T O) → Type 0
 AreQuantised enc tables decisions calls turns =
-    Runs (λ moment call turn. IsQuantised enc tables moment turn) (after_turn enc decisions) opening calls turns
+    Runs (λ moment call turn. IsQuantised enc tables no_passes moment turn) (after_turn enc decisions) opening calls turns
 
 -- the moment after all of them
 abbrev pub moment_after : {T O : Type 0} → EncoderConfig → List Decision → List (Call T O) → List (Turn T O) → Moment T O
@@ -169,8 +170,8 @@ pub record Headline {T O : Type 0} (enc : EncoderConfig) (decisions : List Decis
 
 -- ---- the whole
 
--- a session's run: its calls, its transcript, and what those outside told before and after
-pub record IsSessionRun {T O : Type 0} (enc : EncoderConfig) (tables : Tables) (calls : List (Call T O)) (transcript : Transcript T O) (before after : Heard T) : Type 0 where
+-- a session's run but for its quantisers: its calls, its transcript, and what those outside told before and after
+pub record IsPlayed {T O : Type 0} (enc : EncoderConfig) (calls : List (Call T O)) (transcript : Transcript T O) (before after : Heard T) : Type 0 where
   -- the reply table
   pub turns : AreTurns enc transcript.decisions calls transcript.turns
   -- the transcript gives the decisions made by its end, and no more
@@ -179,8 +180,6 @@ pub record IsSessionRun {T O : Type 0} (enc : EncoderConfig) (tables : Tables) (
   -- they are the detector's answers, but for the frames sent as key frames
   pub asked : IsAsked enc (accepted_in calls transcript.turns) transcript.decisions before after
   pub headline : Headline enc transcript.decisions calls transcript.turns
-  -- each turn's quantisers are those selected at its moment, and its reservoir the ledger
-  pub quantised : AreQuantised enc tables transcript.decisions calls transcript.turns
   -- mean scales were asked for the frames sent under the numbers that were coded for good, in their order
   pub scaled : AreScaled (frames_of (picture_sent (accepted_in calls transcript.turns)) (entries_of transcript.turns))
       (scales_of (entries_of transcript.turns)) before.scales after.scales
@@ -191,6 +190,12 @@ pub record IsSessionRun {T O : Type 0} (enc : EncoderConfig) (tables : Tables) (
   -- they come before its first failing call
   pub unreached : AreBeforeFault before.coder.fails_after (length (entries_of transcript.turns))
 
+-- a session's run in one pass
+pub record IsSessionRun {T O : Type 0} (enc : EncoderConfig) (tables : Tables) (calls : List (Call T O)) (transcript : Transcript T O) (before after : Heard T) : Type 0 where
+  pub played : IsPlayed enc calls transcript before after
+  -- each turn's quantisers are those selected at its moment, and its reservoir the ledger
+  pub quantised : AreQuantised enc tables transcript.decisions calls transcript.turns
+
 -- ---- schedules
 
 -- two runs accepted the same frames with the same parameters, and made the same decisions
@@ -198,10 +203,10 @@ pub record IsSameInput {T O : Type 0} (calls : List (Call T O)) (transcript : Tr
   pub frames : accepted_in others other.turns ≡ accepted_in calls transcript.turns
   pub decisions : other.decisions ≡ transcript.decisions
 
--- of two such runs, whatever their calls in between and their tables, flushed or not, the commands of the one begin those
--- of the other
+-- of two such runs, whatever their calls in between, their tables and passes, flushed or not, the commands of the one begin
+-- those of the other
 abbrev pub KeepsSchedule : {T O : Type 0} → EncoderConfig → List (Call T O) → Transcript T O → Type 0
 KeepsSchedule {T} {O} enc calls transcript =
-    (tables : Tables) (others : List (Call T O)) (other : Transcript T O) (before after : Heard T) →
-    IsSessionRun enc tables others other before after → IsSameInput calls transcript others other →
+    (others : List (Call T O)) (other : Transcript T O) (before after : Heard T) →
+    IsPlayed enc others other before after → IsSameInput calls transcript others other →
     IsPrefix (commands_of transcript.turns) (commands_of other.turns) ⊎ IsPrefix (commands_of other.turns) (commands_of transcript.turns)

@@ -15,13 +15,13 @@ use Rattle.pyramid.specs.Places.{settled_commands}
 use Rattle.pyramid.specs.Schedules.{IsSchedule}
 use Rattle.pyramid.specs.Settings.{numbers_of}
 use Rattle.quantizers.specs.Tables.{Tables}
-use Rattle.session_log.specs.Passes.{no_passes}
+use Rattle.session_log.specs.Passes.{Passes, passes_after, passes_of}
 use Rattle.session_log.specs.declared.entry.LogEntry.{LogEntry}
-use Rattle.session_log.specs.Keeps.{IsSized, Keeps, RateKept}
+use Rattle.session_log.specs.Keeps.{IsCodedForGood, IsSized, Keeps, RateKept}
 use Rattle.session_log.specs.Selection.{reservoir_after}
 use Rattle.session_core.specs.declared.coded.Coded.{Coded}
 use Rattle.session_core.specs.declared.fault.SessionFault.{SessionFault}
-use Rattle.session_core.specs.declared.fault.SessionFault.TheVariants.{Coder, OutOfMemory}
+use Rattle.session_core.specs.declared.fault.SessionFault.TheVariants.{Coder, OutOfMemory, PassData}
 use Rattle.session_core.specs.declared.waiting.Coding.{Coding as CodedAs}
 use Rattle.session_core.specs.declared.waiting.WaitingFrame.{WaitingFrame}
 use Rattle.session_core.specs.declared.state.SessionState.{SessionState}
@@ -73,11 +73,16 @@ IsScheduled enc moment schedule =
     IsSchedule (numbers_of enc) (interval_of enc.max_key_frame_interval) moment.accepted moment.flushed
     (keys_of moment.accepted moment.decisions) moment.commands schedule
 
--- rate control is that of a moment's log, in which a command has two entries at most
+-- what the passes of a session hand on
+abbrev pub passes_at : {T O : Type 0} → SessionState T O → Passes
+passes_at state = passes_of state.rate.state
+
+-- rate control is that of a moment's log, in which a command has two entries at most, the last of them for good
 pub record IsRated {T O : Type 0} (enc : EncoderConfig) (moment : Moment T O) (rate : RateKept) : Type 0 where
-  pub keeps : Keeps enc rate.tables no_passes moment.log rate
+  pub keeps : Keeps enc rate.tables (passes_of rate.state) moment.log rate
   pub few : length moment.log ≤ moment.commands * 2
   pub sized : All IsSized moment.log
+  pub good : IsCodedForGood moment.log
 
 -- what a state keeps beside its moment: the last key, the schedule, and the rate control
 unfoldable pub IsKept : {T O : Type 0} → EncoderConfig → SessionState T O → Type 0
@@ -138,6 +143,7 @@ abbrev pub FailsCoding : {T : Type 0} → ℕ → CoderTold T → CoderTold T �
 FailsCoding commands told now (Coder number) =
     (number ≡ commands) × Grew told.calls now.calls [] × FailsBehind told.fails_after 0 × Rose told.faults now.faults
 FailsCoding commands told now OutOfMemory = ⊤
+FailsCoding commands told now (PassData refusal) = ⊥
 
 -- what the coder gave for an entry
 abbrev pub gave_of : {T : Type 0} → Coded T → Gave T
@@ -160,28 +166,29 @@ pub record IsCoded {T O : Type 0} (moment : Moment T O) (told now : CoderTold T)
 
 -- rate control behind the entries of a receive so far
 pub record IsRatedBehind {T O : Type 0} (enc : EncoderConfig) (tables : Tables) (moment : Moment T O) (entries : List LogEntry) (rate : RateKept) : Type 0 where
-  pub keeps : Keeps enc tables no_passes (moment.log ++ entries) rate
+  pub keeps : Keeps enc tables (passes_of rate.state) (moment.log ++ entries) rate
   pub few : length moment.log ≤ moment.commands * 2
   pub sized : All IsSized (moment.log ++ entries)
 
 -- these are the tries of a command, and the coder took them
-pub record IsTried {T O : Type 0} (enc : EncoderConfig) (tables : Tables) (moment : Moment T O) (command : Command) (scale : ℤ) (trials : List LogEntry) (told now : CoderTold T) : Type 0 where
+pub record IsTried {T O : Type 0} (enc : EncoderConfig) (tables : Tables) (passes : Passes) (moment : Moment T O) (command : Command) (scale : ℤ) (trials : List LogEntry) (told now : CoderTold T) : Type 0 where
   pub tried : AreTrials enc moment command trials
-  pub selected : AreSelected enc tables moment moment.log trials
+  pub selected : AreSelected enc tables passes moment moment.log trials
   pub alike : All (λ trial. trial.mean_scale ≡ scale) trials
   pub taken : IsTaken {T = T} {O = O} (flat_map (handed_at moment) trials) trials [] told now
   pub counted : Counts told.fails_after now.fails_after (length trials)
 
--- a command is coded for good behind its tries, and answered
-pub record IsCodedTurn {T O : Type 0} (enc : EncoderConfig) (tables : Tables) (moment : Moment T O) (command : Command) (scale : ℤ) (trials : List LogEntry) (turn : Turn T O) (told now : CoderTold T) : Type 0 where
+-- a command is coded for good behind its tries, where the passes hand on `tried`, and answered; then they hand on `passes`
+pub record IsCodedTurn {T O : Type 0} (enc : EncoderConfig) (tables : Tables) (tried passes : Passes) (moment : Moment T O) (command : Command) (scale : ℤ) (trials : List LogEntry) (turn : Turn T O) (told now : CoderTold T) : Type 0 where
   pub entry : LogEntry
   pub log : turn.log ≡ trials ++ entry ∷ []
   pub command_of : entry.command ≡ command
   pub real : entry.trial ≡ false
   pub scale_of : entry.mean_scale ≡ (if is_coding command then scale else pos 0)
-  pub quant : entry.quant ≡ quantisers_at enc tables moment (moment.log ++ trials) entry
+  pub quant : entry.quant ≡ quantisers_at enc tables tried moment (moment.log ++ trials) entry
+  pub moved : passes ≡ passes_after enc tried (moment.log ++ trials) entry
   pub reply : IsReceived moment entry turn.reply
-  pub reservoir : turn.reservoir ≡ reservoir_after enc no_passes (moment.log ++ turn.log)
+  pub reservoir : turn.reservoir ≡ reservoir_after enc passes (moment.log ++ turn.log)
   pub taken : IsTaken (handed_at moment entry) (entry ∷ []) (packet_of turn.reply) told now
   pub counted : Counts told.fails_after now.fails_after 1
 

@@ -8,7 +8,8 @@ use Rattle.pyramid.specs.declared.command.Command.{Command}
 use Rattle.session_core.specs.declared.call.Call.{Call}
 use Rattle.session_core.specs.declared.call.Call.TheVariants.{Receive}
 use Rattle.session_core.specs.declared.fault.SessionFault.{SessionFault}
-use Rattle.session_core.specs.declared.fault.SessionFault.TheVariants.{Coder, OutOfMemory}
+use Rattle.session_core.specs.declared.fault.SessionFault.TheVariants.{Coder, OutOfMemory, PassData}
+use Rattle.session_log.specs.Passes.{Passes, no_passes}
 use Rattle.session_log.specs.declared.entry.LogEntry.{LogEntry}
 use Rattle.session_core.specs.declared.transcript.Reply.{Reply}
 use Rattle.session_core.specs.declared.transcript.Reply.TheVariants.{Status}
@@ -35,13 +36,13 @@ abbrev pub Unused : {T O : Type 0} → Call T O → Type 0 → Type 0 → Type 0
 Unused Receive OfDetector OfCoder = OfDetector
 Unused call OfDetector OfCoder = OfCoder
 
--- a call: its reply and what it coded, the moment after it, and what was told of it
-pub record IsStep {T O : Type 0} (enc : EncoderConfig) (tables : Tables) (call : Call T O) (turn : Turn T O) (before after : Moment T O) (told now : Heard T) : Type 0 where
+-- a call where the passes hand on `passes`: its reply and what it coded, the moment after it, and what was told of it
+pub record IsStep {T O : Type 0} (enc : EncoderConfig) (tables : Tables) (passes : Passes) (call : Call T O) (turn : Turn T O) (before after : Moment T O) (told now : Heard T) : Type 0 where
   -- the reply table
   pub answered : IsTurn enc after.decisions before call turn
   pub moment : after ≡ after_turn enc after.decisions before call turn
   -- the quantisers, and the reservoir
-  pub quantised : IsQuantised enc tables before turn
+  pub quantised : IsQuantised enc tables passes before turn
   -- what the coder took, and that none of it is a call that it told to fail
   pub taken : IsTaken (flat_map (handed_at before) turn.log) turn.log (packet_of turn.reply) told.coder now.coder
   pub counted : Counts told.coder.fails_after now.coder.fails_after (length turn.log)
@@ -50,24 +51,24 @@ pub record IsStep {T O : Type 0} (enc : EncoderConfig) (tables : Tables) (call :
   -- for which frames mean scales were asked
   pub scaled : IsScaled before turn.log told.scales now.scales
 
--- calls one after another, each a step from the moment that the one before leaves, and of what was told by then
+-- calls of a session in one pass one after another, each a step from the moment that the one before leaves, and of what was told by then
 abbrev pub AreSteps : {T O : Type 0} → EncoderConfig → Tables → List (Call T O) → List (Turn T O) →
     Moment T O → Moment T O → Heard T → Heard T → Type 0
 AreSteps enc tables [] [] before after told now = (after ≡ before) × (now ≡ told)
 AreSteps {T} {O} enc tables (call ∷ calls) (turn ∷ turns) before after told now =
-    (next : Moment T O) × (then : Heard T) × IsStep enc tables call turn before next told then
+    (next : Moment T O) × (then : Heard T) × IsStep enc tables no_passes call turn before next told then
     × AreSteps enc tables calls turns next after then now
 AreSteps enc tables calls turns before after told now = ⊥
 
 -- the coder failed in the receive that codes the command of this number, behind what it took of the tries for it
-pub record IsCoderFault {T O : Type 0} (enc : EncoderConfig) (tables : Tables) (before : Moment T O) (told now : Heard T) (number : ℕ) : Type 0 where
+pub record IsCoderFault {T O : Type 0} (enc : EncoderConfig) (tables : Tables) (passes : Passes) (before : Moment T O) (told now : Heard T) (number : ℕ) : Type 0 where
   pub command : Command
   pub trials : List LogEntry
   pub scales : List ℤ
   pub due : Codes enc before number command
   pub tried : BeginTrials enc before command trials
   -- a try had the quantisers that were selected, and the mean scale of the command's frame
-  pub selected : AreSelected enc tables before before.log trials
+  pub selected : AreSelected enc tables passes before before.log trials
   pub scaled : AreScaled (frame_of (picture_at before) command) scales told.scales now.scales
   pub alike : map (λ trial. trial.mean_scale) trials ≡ take (length trials) scales
   pub taken : IsTaken {T = T} {O = O} (flat_map (handed_at before) trials) trials [] told.coder now.coder
@@ -78,6 +79,8 @@ pub record IsCoderFault {T O : Type 0} (enc : EncoderConfig) (tables : Tables) (
   pub unasked : now.detector ≡ told.detector
 
 -- a call that failed: a receive because of the coder, or any for want of memory, which has no cause that is told
-abbrev pub Fails : {T O : Type 0} → EncoderConfig → Tables → Call T O → Moment T O → Heard T → Heard T → SessionFault → Type 0
-Fails enc tables call before told now (Coder number) = (call ≡ Receive) × IsCoderFault enc tables before told now number
-Fails enc tables call before told now OutOfMemory = ⊤
+abbrev pub Fails : {T O : Type 0} → EncoderConfig → Tables → Passes → Call T O → Moment T O → Heard T → Heard T → SessionFault → Type 0
+Fails enc tables passes call before told now (Coder number) =
+    (call ≡ Receive) × IsCoderFault enc tables passes before told now number
+Fails enc tables passes call before told now OutOfMemory = ⊤
+Fails enc tables passes call before told now (PassData refusal) = ⊥

@@ -4,11 +4,10 @@ ghost use Rattle.std.specs.Option.{option_map};
 ghost use Rattle.pyramid.specs.Known.{is_coding};
 ghost use Rattle.quantizers.specs.Tables.{Tables};
 ghost use Rattle.session_log.specs.Keeps.{Keeps};
-ghost use Rattle.session_log.specs.Passes.{no_passes};
 ghost use Rattle.session_log.specs.declared.entry.LogEntry.{LogEntry as Entry};
 ghost use Rattle.session_core.specs.declared.fault.SessionFault.TheVariants.{Coder};
 ghost use Rattle.session_core.specs.Quantisers.{quantisers_at};
-ghost use Rattle.session_core.specs.States.{moment_of, Carries, CanCode, FailsCoding, IsCoded, IsDue};
+ghost use Rattle.session_core.specs.States.{moment_of, passes_at, Carries, CanCode, FailsCoding, IsCoded, IsDue};
 ghost use Rattle.session_core.specs.Told.{IsCoderLater};
 ghost use Rattle.session_core.specs.Turns.{IsNextPacket, IsReceived, after_receive, frame_limit, noted};
 
@@ -46,8 +45,9 @@ impl<T: Drop, O: Drop> SessionState<T, O> {
         ensures scale { IfOk result (λ coded.
             coded.entry.mean_scale ≡ (if is_coding command.now then mean_scale else pos 0)) }
         ensures quant { IfOk result (λ coded. (tables : Tables) (log : List Entry) →
-            Keeps enc.now tables no_passes log self.now.rate →
-            coded.entry.quant ≡ quantisers_at enc.now tables (moment_of self.now) log coded.entry) }
+            Keeps enc.now tables (passes_at self.now) log self.now.rate →
+            coded.entry.quant ≡ quantisers_at enc.now tables (passes_at self.now) (moment_of self.now) log
+            coded.entry) }
         ensures coded { IfOk result
             (IsCoded (moment_of self.now) (C.told coder.old) (C.told coder.new)) }
         ensures failed { IfErr result (λ fault.

@@ -1,13 +1,14 @@
-ghost use Rattle.std.specs.Prelude.{◌≡◌, None, Some, Err, IfOk, IsOk, IsTrue, false, true};
+ghost use Rattle.std.specs.Prelude.{◌≡◌, ◌⊎◌, None, Some, Err, IfOk, IsOk, IsSome, true};
 ghost use Rattle.av1_frame.specs.Planes.{IsFilled};
 ghost use Rattle.av1_frame.specs.Sizes.{chroma_size};
 ghost use Rattle.av1_settings.specs.declared.config.Config.{Config as Settings};
 ghost use Rattle.av1_settings.specs.declared.invalid.InvalidConfig.{InvalidConfig};
-ghost use Rattle.av1_settings.specs.Checks.{asks_passes, pixel_refusal};
+ghost use Rattle.av1_settings.specs.Checks.{pixel_refusal};
 ghost use Rattle.av1_settings.specs.Header.{container_sequence_header};
 ghost use Rattle.session_core.specs.declared.call.Call.TheVariants.{Flush, Receive};
-ghost use Rattle.session_core.specs.declared.setup.SetupError.TheVariants.{Invalid, Unbuilt};
+ghost use Rattle.session_core.specs.declared.setup.SetupError.TheVariants.{Invalid, OutOfMemory as NoMemory};
 ghost use Rattle.session_core.specs.Contexts.{GivesDone, GivesReceived, IsCall, IsSend, fresh};
+ghost use Rattle.session_core.specs.PassTurns.{passes_begun};
 ghost use Rattle.session_core.specs.Told.{heard};
 
 use crate::{
@@ -24,7 +25,7 @@ use std::marker::Model;
 /// as [`ContextInner`], on which it stands.
 #[derive(Drop)]
 pub struct Context<T, O, D, S, C> {
-    inner: ContextInner<T, O, D, S, C>,
+    pub(crate) inner: ContextInner<T, O, D, S, C>,
 }
 
 impl<T, O, D, S, C> Model for Context<T, O, D, S, C> {
@@ -91,8 +92,9 @@ impl<
     /// Has the coder carry out the plan's next command, if it is known, and gives the packet of the frame that it shows.
     ///
     /// The statuses, in this order: Failure in a session that has failed; LimitReached once it is flushed and every frame's
-    /// packet was given; NeedMoreData while too few frames are known; then a command is coded: Failure where the coder fails,
-    /// OutOfMemory, both of which fail the session, or Encoded for a frame that isn't shown yet.
+    /// packet was given; NeedMoreData while too few frames are known; NotReady while pass data is missing; then a command is
+    /// coded: Failure where the coder fails, OutOfMemory, both of which fail the session, or Encoded for a frame that isn't
+    /// shown yet.
     pub fn receive_packet(&mut self, alloc: Global) -> Result<Packet<T, O>, EncoderStatus>
         ensures call { IsCall GivesReceived Receive self.old self.new
             (heard (C.told self.old.coder) (D.told self.old.detector) (S.told self.old.scales))
@@ -125,11 +127,12 @@ pub trait NewContext {
     fn settings(&self) -> &Config
         ensures { result.now ≡ settings self.now };
 
-    /// A session that hasn't begun, for a configuration in one pass. `levels` has the limits of the AV1
+    /// A session that hasn't begun. A first pass is on where the configuration asks for pass data, a second where it has a
+    /// summary. `levels` has the limits of the AV1
     /// specification's levels, and `tables` the quantisers by their index.
     ///
     /// The errors are `Invalid`, with the configuration's first refusal, one of which is a bit depth above the pixel type's;
-    /// `Unbuilt` where the configuration is valid and asks for pass data or a summary.
+    /// `OutOfMemory`, which comes only with a summary.
     final fn new_context<
         T: Pixel,
         O: Drop,
@@ -145,22 +148,19 @@ pub trait NewContext {
         scales: S,
         coder: C,
     ) -> Result<Context<T, O, D, S, C>, SetupError>
-        ensures made { IfOk result (λ c. c ≡ fresh (settings self.now).enc tables.now detector scales coder) }
+        ensures made { IfOk result (λ c. c ≡ fresh (settings self.now).enc tables.now
+            (passes_begun (settings self.now).enc tables.now (settings self.now).rate_control)
+            detector scales coder) }
         ensures invalid { (v : InvalidConfig)
             → result ≡ Err (Invalid v)
             → pixel_refusal T.BITS levels.now (settings self.now) ≡ Some v }
         ensures refused { (v : InvalidConfig)
             → pixel_refusal T.BITS levels.now (settings self.now) ≡ Some v
             → result ≡ Err (Invalid v) }
-        ensures unbuilt { result ≡ Err Unbuilt
-            → (pixel_refusal T.BITS levels.now (settings self.now) ≡ None)
-            × IsTrue (asks_passes (settings self.now)) }
-        ensures asks { pixel_refusal T.BITS levels.now (settings self.now) ≡ None
-            → IsTrue (asks_passes (settings self.now))
-            → result ≡ Err Unbuilt }
         ensures complete { pixel_refusal T.BITS levels.now (settings self.now) ≡ None
-            → asks_passes (settings self.now) ≡ false
-            → IsOk result }
+            → IsOk result ⊎ (result ≡ Err NoMemory) }
+        ensures memory { result ≡ Err NoMemory
+            → IsSome (settings self.now).rate_control.summary }
     {
         let inner = ContextInner::new(
             alloc,

@@ -1,17 +1,18 @@
 // A session that is called one call at a time.
-ghost use Rattle.std.specs.Prelude.{◌≡◌, ◌≤◌, ◌+◌, ◌-◌, length, ◌&&◌, ◌||◌, not, nat_lt, None, Some, Ok, Err, true, IfOk, IfErr, IsOk, IsSome, IsTrue, false, is_none};
+ghost use Rattle.std.specs.Prelude.{◌≡◌, ◌≤◌, ◌+◌, ◌-◌, length, ◌&&◌, ◌||◌, not, nat_lt, None, Some, Ok, Err, true, IfOk, IfErr, IsOk, IsSome, ◌⊎◌, is_none};
 ghost use Rattle.av1_frame.specs.Planes.{IsFilled};
 ghost use Rattle.av1_frame.specs.Sizes.{chroma_size};
 ghost use Rattle.av1_settings.specs.declared.invalid.InvalidConfig.{InvalidConfig};
-ghost use Rattle.av1_settings.specs.Checks.{asks_passes, pixel_refusal};
+ghost use Rattle.av1_settings.specs.Checks.{pixel_refusal};
 ghost use Rattle.av1_settings.specs.Header.{container_sequence_header};
-ghost use Rattle.session_log.specs.Passes.{no_passes, rate_at};
+ghost use Rattle.session_log.specs.Passes.{rate_at};
 ghost use Rattle.session_core.specs.declared.call.Call.TheVariants.{Flush, Receive};
 ghost use Rattle.session_core.specs.declared.transcript.Reply.TheVariants.{Flushed};
-ghost use Rattle.session_core.specs.declared.setup.SetupError.TheVariants.{Invalid, Unbuilt};
+ghost use Rattle.session_core.specs.declared.setup.SetupError.TheVariants.{Invalid, OutOfMemory as NoMemory};
 ghost use Rattle.session_core.specs.Contexts.{GivesDone, GivesReceived, GivesReply, IsCall, IsReceiveReply, IsSend, fresh, Asks};
 ghost use Rattle.std.specs.Option.{option_map};
 ghost use Rattle.session_core.specs.Moments.{is_complete, places_ahead};
+ghost use Rattle.session_core.specs.PassTurns.{passes_begun};
 ghost use Rattle.session_core.specs.Told.{heard};
 ghost use Rattle.session_core.specs.Turns.{needs_more_data};
 
@@ -28,24 +29,24 @@ use std::marker::Model;
 use std::sync::Arc;
 
 /// A session that is called one call at a time, with its detector, its mean scales and its coder. Contracts see it as a record
-/// (`Session`): the settings, the quantiser tables, the session's moment, the cause of the first call that failed, and those
-/// three.
+/// (`Session`): the settings, the quantiser tables, the session's moment, what its passes hand on, the cause of the first call
+/// that failed, and those three.
 ///
 /// Each call is answered as a turn of `run_session` is, at the moment that the calls before it lead to. Where a call fails
 /// its cause is kept, and each later call answers Failure and changes nothing.
 #[derive(Drop)]
 pub struct ContextInner<T, O, D, S, C> {
-    enc: EncoderConfig,
-    state: SessionState<T, O>,
-    failure: Option<SessionFault>,
-    detector: D,
-    scales: S,
-    coder: C,
+    pub(crate) enc: EncoderConfig,
+    pub(crate) state: SessionState<T, O>,
+    pub(crate) failure: Option<SessionFault>,
+    pub(crate) detector: D,
+    pub(crate) scales: S,
+    pub(crate) coder: C,
 }
 
 impl<T, O, D, S, C> Model for ContextInner<T, O, D, S, C> {
     ghost use Rattle.session_core.specs.Contexts.{Session};
-    ghost use Rattle.session_core.specs.States.{moment_of};
+    ghost use Rattle.session_core.specs.States.{moment_of, passes_at};
     ghost use Rattle.session_core.specs.Held.{IsHeld};
 
     ghost Value = { Session T O D S C };
@@ -54,6 +55,7 @@ impl<T, O, D, S, C> Model for ContextInner<T, O, D, S, C> {
       enc = c.enc;
       tables = c.state.rate.tables;
       moment = moment_of c.state;
+      passes = passes_at c.state;
       failure = c.failure;
       detector = c.detector;
       scales = c.scales;
@@ -70,11 +72,12 @@ impl<
     S: MeanScale<T> + Drop,
     C: FrameCoder<T> + Drop,
 > ContextInner<T, O, D, S, C> {
-    /// A session that hasn't begun, for a configuration in one pass. `levels` has the limits of the AV1
+    /// A session that hasn't begun. A first pass is on where the configuration asks for pass data, a second where it has a
+    /// summary. `levels` has the limits of the AV1
     /// specification's levels, and `tables` the quantisers by their index.
     ///
     /// The errors are `Invalid`, with the configuration's first refusal, one of which is a bit depth above the pixel type's;
-    /// `Unbuilt` where the configuration is valid and asks for pass data or a summary.
+    /// `OutOfMemory`, which comes only with a summary.
     pub fn new(
         alloc: Global,
         cfg: &Config,
@@ -84,31 +87,27 @@ impl<
         scales: S,
         coder: C,
     ) -> Result<ContextInner<T, O, D, S, C>, SetupError>
-        ensures made { IfOk result (λ c. c ≡ fresh cfg.now.enc tables.now detector scales coder) }
+        ensures made { IfOk result (λ c. c ≡ fresh cfg.now.enc tables.now
+            (passes_begun cfg.now.enc tables.now cfg.now.rate_control) detector scales coder) }
         ensures invalid { (v : InvalidConfig)
             → result ≡ Err (Invalid v)
             → pixel_refusal T.BITS levels.now cfg.now ≡ Some v }
         ensures refused { (v : InvalidConfig)
             → pixel_refusal T.BITS levels.now cfg.now ≡ Some v
             → result ≡ Err (Invalid v) }
-        ensures unbuilt { result ≡ Err Unbuilt
-            → (pixel_refusal T.BITS levels.now cfg.now ≡ None) × IsTrue (asks_passes cfg.now) }
-        ensures asks { pixel_refusal T.BITS levels.now cfg.now ≡ None
-            → IsTrue (asks_passes cfg.now)
-            → result ≡ Err Unbuilt }
         ensures complete { pixel_refusal T.BITS levels.now cfg.now ≡ None
-            → asks_passes cfg.now ≡ false
-            → IsOk result }
+            → IsOk result ⊎ (result ≡ Err NoMemory) }
+        ensures memory { result ≡ Err NoMemory → IsSome cfg.now.rate_control.summary }
     {
         if let Err(refusal) = cfg.validate_for_pixel(levels, T::BITS) {
             return Err(SetupError::Invalid(refusal));
         }
-        if asks_passes(cfg) {
-            return Err(SetupError::Unbuilt);
-        }
+        let Ok(state) = SessionState::begin(alloc, &cfg.enc, tables, &cfg.rate_control) else {
+            return Err(SetupError::OutOfMemory);
+        };
         Ok(ContextInner {
             enc: cfg.enc,
-            state: SessionState::new(alloc, &cfg.enc, tables),
+            state,
             failure: None,
             detector,
             scales,
@@ -151,8 +150,9 @@ impl<
     /// Has the coder carry out the plan's next command, if it is known, and gives the packet of the frame that it shows.
     ///
     /// The statuses, in this order: Failure in a session that has failed; LimitReached once it is flushed and every frame's
-    /// packet was given; NeedMoreData while too few frames are known; then a command is coded: Failure where the coder fails,
-    /// OutOfMemory, both of which fail the session, or Encoded for a frame that isn't shown yet.
+    /// packet was given; NeedMoreData while too few frames are known; NotReady while pass data is missing; then a command is
+    /// coded: Failure where the coder fails, OutOfMemory, both of which fail the session, or Encoded for a frame that isn't
+    /// shown yet.
     pub fn receive_packet(&mut self, alloc: Global) -> Result<Packet<T, O>, EncoderStatus>
         ensures call { IsCall GivesReceived Receive self.old self.new
             (heard (C.told self.old.coder) (D.told self.old.detector) (S.told self.old.scales))
@@ -174,7 +174,7 @@ impl<
         if self.failure.is_some() {
             return Err(EncoderStatus::Failure);
         }
-        let turn = self.state.turn(
+        let turn = self.state.ready_turn(
             alloc,
             &self.enc,
             &mut self.detector,
@@ -236,7 +236,7 @@ impl<
     /// The state of the rate controller. No memory is taken.
     pub fn rc(&self) -> &RCState
         ensures { self.now.failure ≡ None
-            → result.now ≡ rate_at self.now.enc no_passes self.now.moment.log }
+            → result.now ≡ rate_at self.now.enc self.now.passes self.now.moment.log }
     {
         self.state.rate.state()
     }
@@ -291,13 +291,6 @@ impl<
         let ContextInner { coder, .. } = self;
         coder
     }
-}
-
-// Whether a configuration asks for pass data or gives a summary, which sessions don't follow yet.
-fn asks_passes(cfg: &Config) -> bool
-    ensures { result ≡ asks_passes cfg.now }
-{
-    cfg.rate_control.emit_data || cfg.rate_control.summary.is_some()
 }
 
 // What a frame and its parameters ask for.

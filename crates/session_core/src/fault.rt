@@ -1,8 +1,10 @@
 ghost use Rattle.std.specs.Prelude.{◌≡◌};
 ghost use Rattle.session_core.specs.Contexts.{status_of};
+ghost use Rattle.session_core.specs.PassCalls.{fault_of};
 
 use av1_settings::EncoderStatus;
 use coding_base::OutOfMemory;
+use pass_data::PassDataError;
 use std::alloc::{AllocError, AllocFailed};
 use thiserror::Error;
 
@@ -15,6 +17,9 @@ pub enum SessionFault {
         /// The number of commands coded before.
         command: u64,
     },
+    /// Pass data was refused, but never for want of memory.
+    #[error("pass data was refused: {0}")]
+    PassData(PassDataError),
     /// Memory ran out in a call that changes the session.
     #[error("out of memory")]
     OutOfMemory,
@@ -26,9 +31,19 @@ impl SessionFault {
         ensures { result ≡ status_of self }
     {
         match self {
-            SessionFault::Coder { .. } => EncoderStatus::Failure,
+            SessionFault::Coder { .. } | SessionFault::PassData(_) => EncoderStatus::Failure,
             SessionFault::OutOfMemory => EncoderStatus::OutOfMemory,
         }
+    }
+}
+
+// The fault of a session that is given refused pass data.
+pub(crate) fn refusal_of(error: PassDataError) -> SessionFault
+    ensures { result ≡ fault_of error }
+{
+    match error {
+        PassDataError::OutOfMemory => SessionFault::OutOfMemory,
+        refusal => SessionFault::PassData(refusal),
     }
 }
 

@@ -3,11 +3,12 @@ ghost use Rattle.std.specs.Prelude.{◌≡◌, ◌<◌, ◌^◌, pos};
 ghost use Rattle.std.specs.Int.{int_min};
 ghost use Rattle.rate_model.specs.Measure.{LAST_I32};
 ghost use Rattle.session_core.specs.Quantisers.{clamped_guess, gop_start_at, guess_at, units_of};
-ghost use Rattle.session_core.specs.States.{moment_of, IsDue};
+ghost use Rattle.session_core.specs.Moments.{opening};
+ghost use Rattle.session_core.specs.States.{moment_of, IsDue, IsScheduled};
 
 use crate::state::SessionState;
 use av1_settings::EncoderConfig;
-use pyramid::GuessedAhead;
+use pyramid::{GuessedAhead, Schedule};
 use session_log::{Guess, SubtypeGuess};
 
 /// A session where it codes its next command. It guesses by the session's schedule.
@@ -29,6 +30,28 @@ impl<'a, T, O> SubtypeGuess for ScheduleGuess<'a, T, O> {
 
     fn gop_input_start(&self) -> u64 {
         self.state.schedule.gop_input_start()
+    }
+}
+
+/// A session that hasn't begun. It guesses by its schedule, which knows of no frame.
+#[derive(Drop)]
+pub(crate) struct OpeningGuess<'a> {
+    pub(crate) enc: &'a EncoderConfig,
+    pub(crate) schedule: &'a Schedule,
+    ghost opens: { ∥ IsScheduled {T = Unit {0}} {O = Unit {0}} enc.now opening schedule.now ∥₁ },
+}
+
+impl<'a> SubtypeGuess for OpeningGuess<'a> {
+    ghost guess = { λ at. guess_at {T = Unit {0}} {O = Unit {0}} at.enc.now opening };
+
+    ghost gop_input_start = { λ at. gop_start_at {T = Unit {0}} {O = Unit {0}} at.enc.now opening };
+
+    fn guess(&self, tus: i32) -> Guess {
+        clamped(&self.schedule.guess(units_of(tus)))
+    }
+
+    fn gop_input_start(&self) -> u64 {
+        self.schedule.gop_input_start()
     }
 }
 

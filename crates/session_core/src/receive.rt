@@ -5,9 +5,9 @@ ghost use Rattle.pyramid.specs.Known.{is_coding};
 ghost use Rattle.session_core.specs.declared.call.Call.TheVariants.{Receive};
 ghost use Rattle.session_core.specs.declared.fault.SessionFault.TheVariants.{Coder};
 ghost use Rattle.session_core.specs.Moments.{Moment, is_complete, known_at, plan_at};
-ghost use Rattle.session_core.specs.Quantisers.{IsQuantised};
+ghost use Rattle.session_core.specs.Quantisers.{IsQuantised, passes_behind};
 ghost use Rattle.session_core.specs.Scales.{AreScaled, IsScaled, frame_of, picture_at, scale_list};
-ghost use Rattle.session_core.specs.States.{moment_of, CanCode, FailsCoding, IsAdvanced, IsCodedTurn, IsDue, IsKept, IsRatedBehind, IsReady, IsTried};
+ghost use Rattle.session_core.specs.States.{moment_of, passes_at, CanCode, FailsCoding, IsAdvanced, IsCodedTurn, IsDue, IsKept, IsRatedBehind, IsReady, IsTried};
 ghost use Rattle.session_core.specs.Steps.{Fails, WhereRefused};
 ghost use Rattle.session_core.specs.Taken.{IsTaken, handed_at, packet_of};
 ghost use Rattle.session_core.specs.Told.{Counts, DetectorTold, IsCoderLater, IsScalesLater, heard};
@@ -42,7 +42,10 @@ impl<T: Drop, O: Drop> SessionState<T, O> {
         ensures kept { OnOk result (IsKept enc.now self.new) }
         ensures tables { self.new.rate.tables ≡ self.old.rate.tables }
         ensures quantised { IfOk result
-            (IsQuantised enc.now self.old.rate.tables (moment_of self.old)) }
+            (IsQuantised enc.now self.old.rate.tables (passes_at self.old) (moment_of self.old)) }
+        ensures passes { IfOk result (λ turn.
+            passes_at self.new
+            ≡ passes_behind enc.now (passes_at self.old) (moment_of self.old).log turn.log) }
         ensures refused { IfOk result (λ turn.
             WhereRefused turn.reply ((self.new ≡ self.old) × (scales.new ≡ scales.old)
             × (coder.new ≡ coder.old))) }
@@ -57,7 +60,7 @@ impl<T: Drop, O: Drop> SessionState<T, O> {
         ensures stays { (number : ℕ) → result ≡ Err (Coder number)
             → moment_of self.new ≡ moment_of self.old }
         ensures failed { IfErr result (λ fault. (detector : DetectorTold T) →
-            Fails enc.now self.old.rate.tables Receive (moment_of self.old)
+            Fails enc.now self.old.rate.tables (passes_at self.old) Receive (moment_of self.old)
             (heard (C.told coder.old) detector (S.told scales.old))
             (heard (C.told coder.new) detector (S.told scales.new)) fault) }
         ensures later { IsCoderLater (C.told coder.old) (C.told coder.new) }
@@ -116,11 +119,14 @@ impl<T: Drop, O: Drop> SessionState<T, O> {
         requires kept { IsKept enc.now self.old }
         requires room { self.old.commands + 2 ≤ 2 ^ 32 }
         ensures tried { IfOk result (λ trials.
-            IsTried enc.now self.old.rate.tables (moment_of self.old) command.now mean_scale trials
+            IsTried enc.now self.old.rate.tables (passes_at self.old) (moment_of self.old) command.now mean_scale trials
             (C.told coder.old) (C.told coder.new)) }
         ensures rated { IfOk result (λ trials.
             IsRatedBehind enc.now self.old.rate.tables (moment_of self.old) trials
             self.new.rate) }
+        ensures passes { IfOk result (λ trials.
+            passes_at self.new
+            ≡ passes_behind enc.now (passes_at self.old) (moment_of self.old).log trials) }
         ensures others { self.new ≡ record self.old { rate = self.new.rate } }
         ensures tables { self.new.rate.tables ≡ self.old.rate.tables }
         ensures failed { IfErr result (λ fault.
@@ -161,7 +167,8 @@ impl<T: Drop, O: Drop> SessionState<T, O> {
         requires tries { All (λ trial. trial.trial ≡ true) trials }
         requires single { length trials ≤ 1 }
         ensures coded { IfOk result (λ turn.
-            IsCodedTurn enc.now self.old.rate.tables (moment_of self.old) command.now mean_scale
+            IsCodedTurn enc.now self.old.rate.tables (passes_at self.old) (passes_at self.new)
+            (moment_of self.old) command.now mean_scale
             trials turn (C.told coder.old) (C.told coder.new)) }
         ensures after { IfOk result (λ turn.
             moment_of self.new ≡ after_receive (moment_of self.old) turn.log turn.reply) }
@@ -205,8 +212,8 @@ impl<T: Drop, O: Drop> SessionState<T, O> {
         }
     }
 
-    // Why a receive codes nothing.
-    fn held_back(&self, enc: &EncoderConfig) -> Option<EncoderStatus>
+    /// Why a receive codes nothing.
+    pub(crate) fn held_back(&self, enc: &EncoderConfig) -> Option<EncoderStatus>
         requires kept { IsKept enc.now self.now }
         ensures { result ≡ held_back enc.now (moment_of self.now) }
     {

@@ -2,7 +2,8 @@ ghost use Rattle.std.specs.Prelude.{◌≡◌, ◌⊎◌, ℕ, None, Some, Err, 
 ghost use Rattle.coding_base.specs.Faults.{Rose};
 ghost use Rattle.av1_settings.specs.declared.invalid.InvalidConfig.{InvalidConfig};
 ghost use Rattle.av1_settings.specs.Checks.{session_refusal};
-ghost use Rattle.session_core.specs.declared.session.SessionError.TheVariants.{Invalid, CoderFault};
+ghost use Rattle.pass_data.specs.declared.error.PassDataError.{PassDataError as Refusal};
+ghost use Rattle.session_core.specs.declared.session.SessionError.TheVariants.{Invalid, CoderFault, PassData};
 ghost use Rattle.session_core.specs.Answers.{FailsAt};
 ghost use Rattle.session_core.specs.Moments.{opening};
 ghost use Rattle.session_core.specs.Sessions.{IsSessionRun, KeepsSchedule, moment_after};
@@ -17,6 +18,7 @@ use crate::{
 use av1_frame::Pixel;
 use av1_settings::{Config, InvalidConfig, LevelTables};
 use coding_base::OutOfMemory;
+use pass_data::PassDataError;
 use std::alloc::{AllocError, AllocFailed, Global};
 use thiserror::Error;
 
@@ -35,9 +37,13 @@ pub enum SessionError {
     /// Memory ran out.
     #[error("out of memory")]
     OutOfMemory,
+    /// Pass data was refused, but never for want of memory.
+    #[error("pass data was refused: {0}")]
+    PassData(PassDataError),
 }
 
 impl From<OutOfMemory> for SessionError {
+    ghost use Rattle.pass_data.specs.declared.error.PassDataError.{PassDataError as Refusal};
     ghost use Rattle.session_core.specs.declared.session.SessionError.{SessionError};
     ghost use Rattle.std.specs.Prelude.{◌≡◌};
 
@@ -58,11 +64,13 @@ impl From<SessionFault> for SessionError {
         match fault {
             SessionFault::Coder { command } => SessionError::CoderFault { command },
             SessionFault::OutOfMemory => SessionError::OutOfMemory,
+            SessionFault::PassData(refusal) => SessionError::PassData(refusal),
         }
     }
 }
 
 impl From<AllocError> for SessionError {
+    ghost use Rattle.pass_data.specs.declared.error.PassDataError.{PassDataError as Refusal};
     ghost use Rattle.session_core.specs.declared.session.SessionError.{SessionError};
     ghost use Rattle.std.specs.Prelude.{◌≡◌};
 
@@ -74,6 +82,7 @@ impl From<AllocError> for SessionError {
 }
 
 impl<T: Drop> From<AllocFailed<T>> for SessionError {
+    ghost use Rattle.pass_data.specs.declared.error.PassDataError.{PassDataError as Refusal};
     ghost use Rattle.session_core.specs.declared.session.SessionError.{SessionError};
     ghost use Rattle.std.specs.Prelude.{◌≡◌};
 
@@ -135,6 +144,8 @@ pub fn run_session<T: Pixel, O: Drop, D: Detector<T>, S: MeanScale<T>, C: FrameC
     ensures complete { session_refusal T.BITS levels.now cfg.now ≡ None
         → ¬ Rose (C.told coder.old).faults (C.told coder.new).faults
         → IsOk result ⊎ (result ≡ Err SessionError.OutOfMemory) }
+
+    ensures never { (refusal : Refusal) → ¬ (result ≡ Err (PassData refusal)) }
 
     // What those outside tell goes on; none of them is called where the session doesn't begin.
     ensures later { IsLater (heard (C.told coder.old) (D.told detector.old) (S.told scales.old))

@@ -10,7 +10,4 @@ pub enum SetupError {
     /// Memory ran out.
     #[error("out of memory")]
     OutOfMemory,
-    /// Pass data is asked for or a summary given, which sessions don't follow yet.
-    #[error("sessions in two passes aren't built yet")]
-    Unbuilt,
 }

@@ -5,14 +5,15 @@ ghost use Rattle.av1_settings.specs.Checks.{IsValid};
 ghost use Rattle.quantizers.specs.Tables.{Tables};
 ghost use Rattle.session_log.specs.declared.entry.LogEntry.{LogEntry as Entry};
 ghost use Rattle.session_log.specs.Keeps.{Keeps};
-ghost use Rattle.session_log.specs.Passes.{Passes};
+ghost use Rattle.session_log.specs.Passes.{Passes, no_passes};
 ghost use Rattle.session_log.specs.Selection.{reservoir_after};
 ghost use Rattle.session_core.specs.declared.call.Call.TheVariants.{Flush};
 ghost use Rattle.session_core.specs.declared.fault.SessionFault.TheVariants.{Coder};
 ghost use Rattle.session_core.specs.declared.transcript.Reply.TheVariants.{Flushed};
 ghost use Rattle.session_core.specs.Moments.{opening};
+ghost use Rattle.session_core.specs.Quantisers.{passes_behind};
 ghost use Rattle.session_core.specs.Questions.{IsAskedIn};
-ghost use Rattle.session_core.specs.States.{moment_of, IsKept, IsReady};
+ghost use Rattle.session_core.specs.States.{moment_of, passes_at, IsKept, IsReady};
 ghost use Rattle.session_core.specs.Steps.{Fails, IsStep, Unused, WhereRefused};
 ghost use Rattle.session_core.specs.Told.{heard, IsDetectorLater, IsLater};
 ghost use Rattle.session_core.specs.Turns.{Decides, accepted_of, after_flush, after_send, has_enough, sent_reply};
@@ -68,6 +69,7 @@ impl<T, O> SessionState<T, O> {
         ensures moment { moment_of result ≡ opening }
         ensures kept { IsKept enc.now result }
         ensures tables { result.rate.tables ≡ tables.now }
+        ensures passes { passes_at result ≡ no_passes }
     {
         let schedule = Schedule::new(alloc, InterConfig::new(enc), enc.key_frame_interval());
         SessionState {
@@ -100,9 +102,12 @@ impl<T: Drop, O: Drop> SessionState<T, O> {
         requires ready { IsReady enc.now (moment_of self.old) }
         requires kept { IsKept enc.now self.old }
         ensures step { IfOk result (λ turn.
-            IsStep enc.now self.old.rate.tables call turn (moment_of self.old) (moment_of self.new)
+            IsStep enc.now self.old.rate.tables (passes_at self.old) call turn (moment_of self.old) (moment_of self.new)
             (heard (C.told coder.old) (D.told detector.old) (S.told scales.old))
             (heard (C.told coder.new) (D.told detector.new) (S.told scales.new))) }
+        ensures passes { IfOk result (λ turn.
+            passes_at self.new
+            ≡ passes_behind enc.now (passes_at self.old) (moment_of self.old).log turn.log) }
         ensures refused { IfOk result (λ turn.
             WhereRefused turn.reply ((self.new ≡ self.old)
             × (detector.new ≡ detector.old) × (scales.new ≡ scales.old)
@@ -114,7 +119,7 @@ impl<T: Drop, O: Drop> SessionState<T, O> {
         ensures stays { (number : ℕ) → result ≡ Err (Coder number)
             → moment_of self.new ≡ moment_of self.old }
         ensures failed { IfErr result (λ fault.
-            Fails enc.now self.old.rate.tables call (moment_of self.old)
+            Fails enc.now self.old.rate.tables (passes_at self.old) call (moment_of self.old)
             (heard (C.told coder.old) (D.told detector.old) (S.told scales.old))
             (heard (C.told coder.new) (D.told detector.new) (S.told scales.new)) fault) }
         ensures again { call ≡ Flush

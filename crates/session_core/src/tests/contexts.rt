@@ -171,7 +171,7 @@ const SUMMARY: [u8; 36] = [
 ];
 
 #[test]
-fn what_isnt_built_is_refused(rt: HostRuntime) -> Result<(), Fail> {
+fn a_pass_wants_a_bitrate(rt: HostRuntime) -> Result<(), Fail> {
     let alloc = rt.alloc();
     let mut bytes = [0; 68];
     bytes[..36].copy_from_slice(&SUMMARY);
@@ -179,9 +179,9 @@ fn what_isnt_built_is_refused(rt: HostRuntime) -> Result<(), Fail> {
     for (bitrate, emits, second, wanted) in [
         (0, false, false, None),
         (30000, false, false, None),
-        (30000, true, false, Some(SetupError::Unbuilt)),
+        (30000, true, false, None),
         (0, true, false, Some(invalid)),
-        (30000, false, true, Some(SetupError::Unbuilt)),
+        (30000, false, true, None),
     ] {
         let mut enc = settings(5, 10);
         enc.bitrate = bitrate;
