@@ -1,156 +1,65 @@
--- What the loop over the calls of a session keeps, and what it comes to.
-use Rattle.std.proofs.Common.{◌≡◌, ℕ, ℤ, ◌≤◌, Bool, List, [], ◌∷◌, ◌++◌, length, take, drop, Option, Some, refl, sym, ap, ap₂, ◌∙◌, subst, subst₂, append-nil, take-append-drop}
-use Rattle.std.specs.List.{flat_map, slice_get}
+-- What the loop over the calls of a session in one pass keeps, and what it comes to.
+use Rattle.std.proofs.Common.{◌≡◌, ℕ, ◌≤◌, List, [], ◌∷◌, ◌++◌, length, take, Some, refl, sym, ap, ◌∙◌, subst, subst₂}
+use Rattle.std.specs.List.{slice_get}
 use Rattle.std.proofs.Math.Seq.{take-append_seam}
-use Rattle.std.proofs.lemmas.List.{length-append}
 use Rattle.coding_base.specs.Faults.{Rose}
-use Rattle.coding_base.proofs.FaultLemmas.{rose-after}
-use Rattle.coding_base.proofs.RunLemmas.{runs-length, runs-push, after-push}
-use Rattle.av1_frame.specs.declared.frame.Frame.{Frame}
+use Rattle.coding_base.proofs.RunLemmas.{runs-push}
 use Rattle.av1_settings.specs.declared.encoder.EncoderConfig.{EncoderConfig}
 use Rattle.av1_settings.specs.declared.invalid.InvalidConfig.{InvalidConfig}
-use Rattle.pyramid.specs.Display.{empty_slots}
 use Rattle.quantizers.specs.Tables.{Tables}
 use Rattle.session_core.specs.declared.call.Call.{Call}
-use Rattle.session_core.specs.declared.call.Call.TheVariants.{Send, Flush, Receive}
 use Rattle.session_core.specs.declared.fault.SessionFault.{SessionFault}
-use Rattle.session_core.specs.declared.fault.SessionFault.TheVariants.{Coder, OutOfMemory}
-use Rattle.session_core.specs.declared.packet.Packet.{Packet}
+use Rattle.session_core.specs.declared.fault.SessionFault.TheVariants.{Coder, OutOfMemory, PassData}
 use Rattle.session_core.specs.declared.session.SessionError.{SessionError}
-use Rattle.session_core.specs.declared.session.SessionError.TheVariants.{CoderFault, Invalid, OutOfMemory as NoMemory}
+use Rattle.session_core.specs.declared.session.SessionError.TheVariants.{CoderFault, Invalid, OutOfMemory as NoMemory, PassData as RefusedData}
 use Rattle.session_core.specs.declared.state.SessionState.{SessionState}
 use Rattle.session_core.specs.declared.transcript.Decision.{Decision}
-use Rattle.session_log.specs.declared.entry.LogEntry.{LogEntry}
-use Rattle.session_core.specs.declared.transcript.Reply.{Reply}
-use Rattle.session_core.specs.declared.transcript.Reply.TheVariants.{Sent, Flushed, Packet as GivesPacket, Status}
 use Rattle.session_core.specs.declared.transcript.Transcript.{Transcript}
 use Rattle.session_core.specs.declared.transcript.Turn.{Turn}
-use Rattle.session_core.specs.Answers.{Codes, FailsAt, error_of}
-use Rattle.session_core.specs.Held.{Leads}
-use Rattle.session_core.specs.Moments.{Moment, opening, plan_at}
-use Rattle.session_core.specs.Questions.{AreAnswered, IsAsked, questions, questions_in}
-use Rattle.session_core.specs.Quantisers.{AreSelected, IsQuantised}
-use Rattle.session_core.specs.Scales.{AreScaled, frame_of, frames_of, picture_at, scales_of}
-use Rattle.session_core.specs.Sessions.{AreQuantised, AreTurns, AreKeyDecisions, Headline, IsSessionRun, KeepsSchedule, moment_after, accepted_in, commands_of, entries_of, handed_entries, packets_of, picture_sent}
-use Rattle.session_core.specs.States.{moment_of, IsKept, IsReady}
+use Rattle.pass_data.specs.declared.error.PassDataError.{PassDataError}
+use Rattle.session_log.specs.Passes.{Passes, no_passes}
+use Rattle.session_core.specs.Answers.{FailsAt, IsStopped, error_of}
+use Rattle.session_core.specs.Moments.{Moment, opening}
+use Rattle.session_core.specs.Quantisers.{AreSelected, IsQuantised, passes_behind}
+use Rattle.session_core.specs.Sessions.{AreQuantised, IsSessionRun, KeepsSchedule, moment_after, entries_of}
+use Rattle.session_core.specs.States.{moment_of, passes_at, IsKept}
 use Rattle.session_core.specs.Steps.{AreSteps, Fails, IsStep}
-use Rattle.session_core.specs.Taken.{IsTaken, handed_at}
-use Rattle.session_core.specs.Told.{Counts, DetectorTold, FailsBehind, Grew, Handed, Heard, IsLater}
-use Rattle.session_core.specs.Turns.{BeginTrials, IsTurn, after_receive, after_turn}
-use Rattle.session_core.proofs.Quantising.{logged-all, widen-quantised}
-use Rattle.session_core.proofs.RunHistory.{entries-push, packets-push}
-use Rattle.session_core.proofs.Scaling.{scaled_turns, scaled_turns-push, scaled-all, scaled-next, scaled-none, scaled-then, scales-append, widen-scaled}
-use Rattle.session_core.proofs.SessionLaws.{handed_turns, handed_turns-push, handed-all, handed-tried, ready-of, on-plan, headline-of, keys-of, asked-turn, schedule-of, widen, widen-handed}
-use Rattle.session_core.proofs.Telling.{answered-append, answered-none, counts-fault, counts-none, counts-then, counts-within, grew-none, grew-then, later-same, later-then, taken-none, taken-then}
+use Rattle.session_core.specs.Told.{Heard, IsLater}
+use Rattle.session_core.specs.Turns.{after_turn}
+use Rattle.session_core.proofs.Passing.{behind-none}
+use Rattle.session_core.proofs.Playing.{Playing, get-behind, moment, playing-opening, playing-played, playing-selected, playing-step, playing-stopped, quantised-kept}
+use Rattle.session_core.proofs.SessionLaws.{schedule-of}
 
 -- ---- the loop
 
--- the calls so far were answered, the state is what they leave, the coder took what they coded, mean scales were asked for
--- what they coded for good, and the detector was asked of their decisions
+-- so far the session plays, by steps and with the quantisers of one pass, and the state is what its calls leave
 pub record Carried {T O : Type 0} (enc : EncoderConfig) (tables : Tables) (done : List (Call T O)) (turns : List (Turn T O)) (state : SessionState T O) (before now : Heard T) : Type 0 where
-  pub leads : Leads enc done turns (moment_of state)
+  pub playing : Playing enc done turns (moment_of state) before now
   pub steps : AreSteps enc tables done turns opening (moment_of state) before now
   pub kept : IsKept enc state
   pub tables_are : state.rate.tables ≡ tables
+  pub alone : passes_at state ≡ no_passes
   pub quantised : AreQuantised enc tables state.decisions.items done turns
-  pub scaled : AreScaled (scaled_turns enc state.decisions.items opening done turns) (scales_of (entries_of turns)) before.scales now.scales
-  pub taken : IsTaken (handed_turns enc state.decisions.items opening done turns) (entries_of turns) (packets_of turns) before.coder now.coder
-  pub counted : Counts before.coder.fails_after now.coder.fails_after (length (entries_of turns))
-  pub asked : IsAsked enc (accepted_in done turns) state.decisions.items before now
-  pub later : IsLater before now
 
 pub carried-opening : {T O : Type 0} (enc : EncoderConfig) (tables : Tables) (turns : List (Turn T O)) (state : SessionState T O) (heard : Heard T) →
-    turns ≡ [] → moment_of state ≡ opening → IsKept enc state → state.rate.tables ≡ tables → Carried {T = T} {O = O} enc tables [] turns state heard heard
-carried-opening {T} {O} enc tables turns state heard none opened kept same =
+    turns ≡ [] → moment_of state ≡ opening → IsKept enc state → state.rate.tables ≡ tables → passes_at state ≡ no_passes →
+    Carried {T = T} {O = O} enc tables [] turns state heard heard
+carried-opening {T} {O} enc tables turns state heard none opened kept same alone =
     subst (λ (t : List (Turn T O)). Carried {T = T} {O = O} enc tables [] t state heard heard) (sym none) (record {
-      leads = record { answered = tt; leads = opened };
+      playing = playing-opening enc (moment_of state) heard opened;
       steps = (opened, refl);
       kept = kept;
       tables_are = same;
+      alone = alone;
       quantised = tt;
-      scaled = scaled-none heard.scales;
-      taken = taken-none heard.coder;
-      counted = counts-none heard.coder.fails_after;
-      asked = subst (λ (d : List Decision). IsAsked {T = T} {O = O} enc [] d heard heard) (sym undecided)
-          (record { grew = grew-none heard.detector.questions; ahead = answered-none heard.detector.answers });
-      later = later-same heard;
     })
-  where
-    undecided : state.decisions.items ≡ []
-    undecided = ap (λ (m : Moment T O). m.decisions) opened
-
--- no call changes a decision
-pub received-kept : {T O : Type 0} (moment : Moment T O) (log : List LogEntry) (reply : Reply T O) → (after_receive moment log reply).decisions ≡ moment.decisions
-received-kept moment log (GivesPacket packet) = refl
-received-kept moment log (Sent number) = refl
-received-kept moment log Flushed = refl
-received-kept moment log (Status status) = refl
-
-all-of : {A : Type 0} (xs : List A) → take (length xs) xs ≡ xs
-all-of [] = refl
-all-of (x ∷ xs) = ap (λ l. x ∷ l) (all-of xs)
-
-turn-kept : {T O : Type 0} (enc : EncoderConfig) (decisions : List Decision) (moment : Moment T O) (call : Call T O) (turn : Turn T O) →
-    IsTurn enc decisions moment call turn →
-    moment.decisions ≡ take (length moment.decisions) (after_turn enc decisions moment call turn).decisions
-turn-kept enc decisions moment (Send frame parameters) turn is = is.1.kept
-turn-kept enc decisions moment Flush turn is = is.1.kept
-turn-kept enc decisions moment Receive turn is =
-    sym (all-of moment.decisions) ∙ ap (take (length moment.decisions)) (sym (received-kept moment turn.log turn.reply))
-
--- the decisions of a moment begin those after a call, and don't change what was answered
-module _ {T O : Type 0} (enc : EncoderConfig) (done : List (Call T O)) (turns : List (Turn T O)) (before after : Moment T O) (call : Call T O) (turn : Turn T O)
-    (led : Leads enc done turns before) (is : IsTurn enc after.decisions before call turn) (then : after ≡ after_turn enc after.decisions before call turn) where
-  abbrev whole : List Decision
-  whole = after.decisions
-
-  abbrev new : List Decision
-  new = drop (length before.decisions) whole
-
-  pub kept : before.decisions ≡ take (length before.decisions) whole
-  kept = turn-kept enc whole before call turn is ∙ ap (λ (m : Moment T O). take (length before.decisions) m.decisions) (sym then)
-
-  pub grown : before.decisions ++ new ≡ whole
-  grown = ap (λ (l : List Decision). l ++ new) kept ∙ take-append-drop (length before.decisions) whole
-
-  pub answered : AreTurns enc whole done turns
-  answered = subst (λ (d : List Decision). AreTurns enc d done turns) grown (widen enc before.decisions done turns new led.answered).0
-
-  pub moment : before ≡ moment_after enc whole done turns
-  moment = led.leads
-      ∙ sym (widen enc before.decisions done turns new led.answered).1
-      ∙ ap (λ (d : List Decision). moment_after enc d done turns) grown
-
-  pub here : IsTurn enc whole (moment_after enc whole done turns) call turn
-  here = subst (λ (m : Moment T O). IsTurn enc whole m call turn) moment is
-
-  pub leads-step : Leads enc (done ++ call ∷ []) (turns ++ turn ∷ []) after
-  leads-step = record {
-    answered = runs-push (IsTurn enc whole) (after_turn enc whole) opening done turns call turn answered here;
-    leads = then
-        ∙ ap (λ (m : Moment T O). after_turn enc whole m call turn) moment
-        ∙ sym (after-push (IsTurn enc whole) (after_turn enc whole) opening done turns call turn answered);
-  }
-
-  -- so far each turn has the quantisers selected at its moment
-  pub quantised-kept : (tables : Tables) → AreQuantised enc tables before.decisions done turns → AreQuantised enc tables whole done turns
-  quantised-kept tables quantised =
-      subst (λ (d : List Decision). AreQuantised enc tables d done turns) grown (widen-quantised enc tables before.decisions done turns new led.answered quantised)
-
-  -- the frames that were scaled so far, by the decisions after the call
-  pub scaled-kept : scaled_turns enc whole opening done turns ≡ scaled_turns enc before.decisions opening done turns
-  scaled-kept = ap (λ (d : List Decision). scaled_turns enc d opening done turns) (sym grown) ∙ widen-scaled enc before.decisions done turns new led.answered
-
-  -- what was handed over so far, by the decisions after the call
-  pub handed-kept : handed_turns enc whole opening done turns ≡ handed_turns enc before.decisions opening done turns
-  handed-kept = ap (λ (d : List Decision). handed_turns enc d opening done turns) (sym grown) ∙ widen-handed enc before.decisions done turns new led.answered
 
 -- one more step
 steps-push : {T O : Type 0} (enc : EncoderConfig) (tables : Tables) (done : List (Call T O)) (turns : List (Turn T O)) (call : Call T O) (turn : Turn T O)
-    (before middle after : Moment T O) (told now then : Heard T) → AreSteps enc tables done turns before middle told now → IsStep enc tables call turn middle after now then →
+    (before middle after : Moment T O) (told now then : Heard T) → AreSteps enc tables done turns before middle told now → IsStep enc tables no_passes call turn middle after now then →
     AreSteps enc tables (done ++ call ∷ []) (turns ++ turn ∷ []) before after told then
 steps-push {T} {O} enc tables [] [] call turn before middle after told now then (same, silent) step =
-    (after, then, subst₂ (λ (m : Moment T O) (h : Heard T). IsStep enc tables call turn m after h then) same silent step, (refl, refl))
+    (after, then, subst₂ (λ (m : Moment T O) (h : Heard T). IsStep enc tables no_passes call turn m after h then) same silent step, (refl, refl))
 steps-push enc tables [] (other ∷ turns) call turn before middle after told now then steps step = absurd steps
 steps-push enc tables (first ∷ done) [] call turn before middle after told now then steps step = absurd steps
 steps-push enc tables (first ∷ done) (other ∷ turns) call turn before middle after told now then (next, heard, one, rest) step =
@@ -159,25 +68,21 @@ steps-push enc tables (first ∷ done) (other ∷ turns) call turn before middle
 -- one more call
 pub carried-step : {T O : Type 0} (enc : EncoderConfig) (tables : Tables) (done : List (Call T O)) (turns all : List (Turn T O)) (state after : SessionState T O)
     (before now then : Heard T) (call : Call T O) (turn : Turn T O) → 1 ≤ enc.speed_settings.rdo_lookahead_frames →
-    Carried enc tables done turns state before now → IsStep enc state.rate.tables call turn (moment_of state) (moment_of after) now then → IsKept enc after →
+    Carried enc tables done turns state before now → IsStep enc state.rate.tables (passes_at state) call turn (moment_of state) (moment_of after) now then →
+    passes_at after ≡ passes_behind enc (passes_at state) (moment_of state).log turn.log → IsKept enc after →
     after.rate.tables ≡ state.rate.tables → IsLater now then → all ≡ turns ++ turn ∷ [] → Carried enc tables (done ++ call ∷ []) all after before then
-carried-step {T} {O} enc tables done turns all state after before now then call turn looks carried stepped kept stays later put =
+carried-step {T} {O} enc tables done turns all state after before now then call turn looks carried stepped moved kept stays later put =
     subst (λ (t : List (Turn T O)). Carried enc tables (done ++ call ∷ []) t after before then) (sym put) (record {
-      leads = leads-step enc done turns was is call turn carried.leads step.answered step.moment;
+      playing = playing-step enc tables no_passes done turns was is before now then call turn looks carried.playing step later;
       steps = steps-push enc tables done turns call turn opening was is before now then carried.steps step;
       kept = kept;
       tables_are = stays ∙ carried.tables_are;
+      alone = moved ∙ ap (λ (p : Passes). passes_behind enc p was.log turn.log) carried.alone ∙ behind-none enc was.log turn.log;
       quantised = quantised;
-      scaled = scaled;
-      taken = taken;
-      counted = subst (Counts before.coder.fails_after then.coder.fails_after) (sym (ap (λ (l : List LogEntry). length l) entries ∙ length-append (entries_of turns) turn.log))
-          (counts-then before.coder.fails_after now.coder.fails_after then.coder.fails_after (length (entries_of turns)) (length turn.log) carried.counted step.counted);
-      asked = asked;
-      later = later-then before now then carried.later later;
     })
   where
-    step : IsStep enc tables call turn (moment_of state) (moment_of after) now then
-    step = subst (λ (t : Tables). IsStep enc t call turn (moment_of state) (moment_of after) now then) carried.tables_are stepped
+    step : IsStep enc tables no_passes call turn (moment_of state) (moment_of after) now then
+    step = subst₂ (λ (t : Tables) (p : Passes). IsStep enc t p call turn (moment_of state) (moment_of after) now then) carried.tables_are carried.alone stepped
 
     was : Moment T O
     was = moment_of state
@@ -185,86 +90,11 @@ carried-step {T} {O} enc tables done turns all state after before now then call 
     is : Moment T O
     is = moment_of after
 
-    old : List Decision
-    old = state.decisions.items
-
-    whole : List Decision
-    whole = after.decisions.items
-
-    at : was ≡ moment_after enc whole done turns
-    at = moment enc done turns was is call turn carried.leads step.answered step.moment
-
-    goes_on : AreTurns enc whole done turns
-    goes_on = answered enc done turns was is call turn carried.leads step.answered step.moment
-
-    next : IsTurn enc whole (moment_after enc whole done turns) call turn
-    next = here enc done turns was is call turn carried.leads step.answered step.moment
-
-    entries : entries_of (turns ++ turn ∷ []) ≡ entries_of turns ++ turn.log
-    entries = entries-push turns turn
-
-    same : length turns ≡ length done
-    same = runs-length (IsTurn enc whole) (after_turn enc whole) opening done turns goes_on
-
-    jobs : handed_turns enc whole opening (done ++ call ∷ []) (turns ++ turn ∷ [])
-        ≡ handed_turns enc old opening done turns ++ flat_map (handed_at was) turn.log
-    jobs =
-        handed_turns-push enc whole done turns call turn same
-        ∙ ap₂ (λ (h : List (Handed T)) (m : Moment T O). h ++ flat_map (handed_at m) turn.log)
-        (handed-kept enc done turns was is call turn carried.leads step.answered step.moment) (sym at)
-
-    taken : IsTaken (handed_turns enc whole opening (done ++ call ∷ []) (turns ++ turn ∷ [])) (entries_of (turns ++ turn ∷ [])) (packets_of (turns ++ turn ∷ [])) before.coder then.coder
-    taken =
-        subst (λ (h : List (Handed T)). IsTaken h (entries_of (turns ++ turn ∷ [])) (packets_of (turns ++ turn ∷ [])) before.coder then.coder) (sym jobs)
-        (subst₂ (λ (e : List LogEntry) (p : List (Packet T O)). IsTaken (handed_turns enc old opening done turns ++ flat_map (handed_at was) turn.log) e p before.coder then.coder)
-        (sym entries) (sym (packets-push turns turn))
-        (taken-then before.coder now.coder then.coder _ _ _ _ _ _ carried.taken step.taken))
-
-    quantised : AreQuantised enc tables whole (done ++ call ∷ []) (turns ++ turn ∷ [])
+    quantised : AreQuantised enc tables is.decisions (done ++ call ∷ []) (turns ++ turn ∷ [])
     quantised =
-        runs-push (λ (m : Moment T O) (c : Call T O) (t : Turn T O). IsQuantised enc tables m t) (after_turn enc whole) opening done turns call turn
-        (quantised-kept enc done turns was is call turn carried.leads step.answered step.moment tables carried.quantised)
-        (subst (λ (m : Moment T O). IsQuantised enc tables m turn) at step.quantised)
-
-    frames : scaled_turns enc whole opening (done ++ call ∷ []) (turns ++ turn ∷ [])
-        ≡ scaled_turns enc old opening done turns ++ frames_of (picture_at was) turn.log
-    frames =
-        scaled_turns-push enc whole done turns call turn same
-        ∙ ap₂ (λ (f : List (ℕ × Frame T)) (m : Moment T O). f ++ frames_of (picture_at m) turn.log)
-        (scaled-kept enc done turns was is call turn carried.leads step.answered step.moment) (sym at)
-
-    scaled : AreScaled (scaled_turns enc whole opening (done ++ call ∷ []) (turns ++ turn ∷ [])) (scales_of (entries_of (turns ++ turn ∷ []))) before.scales then.scales
-    scaled =
-        subst₂ (λ (f : List (ℕ × Frame T)) (s : List ℤ). AreScaled f s before.scales then.scales)
-        (sym frames) (sym (ap scales_of entries ∙ scales-append (entries_of turns) turn.log))
-        (scaled-then _ _ before.scales now.scales _ _ then.scales carried.scaled step.scaled)
-
-    -- the questions of this call join those before
-    all_asked : questions enc (accepted_in (done ++ call ∷ []) (turns ++ turn ∷ [])) whole
-        ≡ questions enc (accepted_in done turns) old ++ questions_in enc was is
-    all_asked =
-        ap (questions enc (accepted_in (done ++ call ∷ []) (turns ++ turn ∷ []))) (ap (λ (m : Moment T O). m.decisions) step.moment)
-        ∙ subst Joins (sym at) (asked-turn enc whole done turns looks goes_on call turn next
-        (turn-kept enc whole (moment_after enc whole done turns) call turn next))
-        ∙ ap (λ (m : Moment T O). questions enc (accepted_in done turns) old ++ questions_in enc was m) (sym step.moment)
-      where
-        Joins : Moment T O → Type 0
-        Joins m = questions enc (accepted_in (done ++ call ∷ []) (turns ++ turn ∷ [])) (after_turn enc whole m call turn).decisions
-            ≡ questions enc (accepted_in done turns) m.decisions ++ questions_in enc m (after_turn enc whole m call turn)
-
-    asked : IsAsked enc (accepted_in (done ++ call ∷ []) (turns ++ turn ∷ [])) whole before then
-    asked = record {
-      grew = subst (Grew before.detector.questions then.detector.questions) (sym all_asked)
-          (grew-then before.detector.questions now.detector.questions then.detector.questions _ _ carried.asked.grew step.asked.grew);
-      ahead = subst (AreAnswered before.detector.answers) (grown enc done turns was is call turn carried.leads step.answered step.moment)
-          (answered-append before.detector.answers old (drop (length old) whole) carried.asked.ahead
-          (subst (λ (a : Option (ℕ → Bool)). AreAnswered a (drop (length old) whole)) carried.later.detector.answers step.asked.ahead));
-    }
-
-pub leads-ready : {T O : Type 0} (enc : EncoderConfig) (done : List (Call T O)) (turns : List (Turn T O)) (moment : Moment T O) →
-    1 ≤ enc.speed_settings.rdo_lookahead_frames → Leads enc done turns moment → IsReady enc moment
-leads-ready {T} {O} enc done turns moment looks led =
-    subst (λ (m : Moment T O). IsReady enc m) (sym led.leads) (ready-of enc moment.decisions done turns looks led.answered)
+        runs-push (λ (m : Moment T O) (c : Call T O) (t : Turn T O). IsQuantised enc tables no_passes m t) (after_turn enc is.decisions) opening done turns call turn
+        (quantised-kept enc done turns was is call turn carried.playing.leads step.answered step.moment tables carried.quantised)
+        (subst (λ (m : Moment T O). IsQuantised enc tables no_passes m turn) (moment enc done turns was is call turn carried.playing.leads step.answered step.moment) step.quantised)
 
 -- ---- the end
 
@@ -272,187 +102,83 @@ pub carried-session : {T O : Type 0} (enc : EncoderConfig) (tables : Tables) (ca
     Carried enc tables calls transcript.turns state before now → transcript.decisions ≡ state.decisions.items →
     IsSessionRun enc tables calls transcript before now
 carried-session {T} {O} enc tables calls transcript state before now carried same = record {
-  turns = subst (λ (d : List Decision). AreTurns enc d calls turns) (sym same) carried.leads.answered;
-  decided = subst (λ (d : List Decision). d ≡ (moment_after enc d calls turns).decisions) (sym same) decided;
-  keys = subst (AreKeyDecisions (accepted_in calls turns)) (sym same) (keys-of enc decisions calls turns carried.leads.answered decided);
-  asked = subst (λ (d : List Decision). IsAsked enc (accepted_in calls turns) d before now) (sym same) carried.asked;
-  headline = subst (λ (d : List Decision). Headline enc d calls turns) (sym same) (headline-of enc decisions calls turns carried.leads.answered);
-  quantised = subst (λ (d : List Decision). AreQuantised enc tables d calls turns) (sym same) carried.quantised;
-  scaled = subst (λ (frames : List (ℕ × Frame T)). AreScaled frames (scales_of (entries_of turns)) before.scales now.scales)
-      (scaled-all enc decisions calls turns carried.leads.answered) carried.scaled;
-  taken = subst (λ (jobs : List (Handed T)). IsTaken jobs (entries_of turns) (packets_of turns) before.coder now.coder)
-      (handed-all enc decisions calls turns carried.leads.answered) carried.taken;
-  unreached = counts-within before.coder.fails_after now.coder.fails_after (length (entries_of turns)) carried.counted;
+  played = playing-played enc calls transcript (moment_of state) before now carried.playing same;
+  quantised = subst (λ (d : List Decision). AreQuantised enc tables d calls transcript.turns) (sym same) carried.quantised;
 }
-  where
-    decisions : List Decision
-    decisions = state.decisions.items
-
-    turns : List (Turn T O)
-    turns = transcript.turns
-
-    decided : decisions ≡ (moment_after enc decisions calls turns).decisions
-    decided = ap (λ (m : Moment T O). m.decisions) carried.leads.leads
 
 pub carried-steps : {T O : Type 0} (enc : EncoderConfig) (tables : Tables) (calls : List (Call T O)) (transcript : Transcript T O) (state : SessionState T O) (before now : Heard T) →
     Carried enc tables calls transcript.turns state before now → transcript.decisions ≡ state.decisions.items →
     AreSteps enc tables calls transcript.turns opening (moment_after enc transcript.decisions calls transcript.turns) before now
 carried-steps {T} {O} enc tables calls transcript state before now carried same =
     subst (λ (m : Moment T O). AreSteps enc tables calls transcript.turns opening m before now)
-    (carried.leads.leads ∙ ap (λ (d : List Decision). moment_after enc d calls transcript.turns) (sym same)) carried.steps
+    (carried.playing.leads.leads ∙ ap (λ (d : List Decision). moment_after enc d calls transcript.turns) (sym same)) carried.steps
 
 pub session-schedule : {T O : Type 0} (enc : EncoderConfig) (tables : Tables) (calls : List (Call T O)) (transcript : Transcript T O) (before now : Heard T) →
     IsSessionRun enc tables calls transcript before now → KeepsSchedule enc calls transcript
-session-schedule enc tables calls transcript before now run = schedule-of enc calls transcript run.turns run.decided
+session-schedule enc tables calls transcript before now run = schedule-of enc calls transcript run.played.turns run.played.decided
 
 -- ---- a call that fails
-
-get-behind : {A : Type 0} (done rest : List A) (x : A) → slice_get (done ++ x ∷ rest) (length done) ≡ Some x
-get-behind [] rest x = refl
-get-behind (y ∷ done) rest x = get-behind done rest x
 
 pub carried-fault : {T O : Type 0} (enc : EncoderConfig) (tables : Tables) (done rest calls : List (Call T O)) (turns : List (Turn T O)) (state : SessionState T O)
     (before now then : Heard T) (call : Call T O) (number : ℕ) →
     Carried enc tables done turns state before now → done ++ call ∷ rest ≡ calls →
-    Fails enc tables call (moment_of state) now then (Coder number) → FailsAt enc tables calls before then number
+    Fails enc tables no_passes call (moment_of state) now then (Coder number) → FailsAt enc tables calls before then number
 carried-fault {T} {O} enc tables done rest calls turns state before now then call number carried joined (receives, fault) = record {
   done = length done;
   turns = turns;
   decisions = decisions;
   command = fault.command;
   trials = fault.trials;
-  scales = fault.scales;
   at_receive = ap (λ (l : List (Call T O)). slice_get l (length done)) (sym joined) ∙ get-behind done rest call
       ∙ ap (λ (c : Call T O). Some c) receives;
-  answered = facts.0;
-  decided = facts.1;
-  keys = facts.2;
-  asked = facts.3;
-  due = facts.4;
-  coded = planned.1 ∙ commands;
-  first = facts.5;
-  tried = facts.6;
-  quantised = facts.7;
-  selected = facts.8;
-  scaled = facts.9;
-  alike = fault.alike;
-  taken = facts.10;
-  reached = subst (FailsBehind before.coder.fails_after) (sym (length-append (entries_of turns) fault.trials))
-      (counts-fault before.coder.fails_after now.coder.fails_after (length (entries_of turns)) (length fault.trials) carried.counted fault.reached);
-  rose = rose-after before.coder.faults now.coder.faults then.coder.faults carried.later.coder.faults fault.rose;
+  stopped = facts.0;
+  quantised = facts.1;
+  selected = facts.2;
 }
   where
     decisions : List Decision
     decisions = state.decisions.items
 
-    at : moment_of state ≡ moment_after enc decisions done turns
-    at = carried.leads.leads
-
-    moment : Moment T O
-    moment = moment_after enc decisions done turns
-
-    codes_here : Codes enc moment number fault.command
-    codes_here = subst (λ (m : Moment T O). Codes enc m number fault.command) at fault.due
-
-    begin_here : BeginTrials enc moment fault.command fault.trials
-    begin_here = subst (λ (m : Moment T O). BeginTrials enc m fault.command fault.trials) at fault.tried
-
-    commands : moment.commands ≡ number
-    commands = codes_here.next
-
-    planned : (commands_of turns ≡ take moment.commands (plan_at enc moment)) × (length (commands_of turns) ≡ moment.commands)
-    planned = on-plan enc decisions done turns carried.leads.answered
-
-    jobs : handed_turns enc decisions opening done turns ++ flat_map (handed_at (moment_of state)) fault.trials
-        ≡ handed_entries (accepted_in done turns) empty_slots (entries_of turns ++ fault.trials)
-    jobs = ap (λ (m : Moment T O). handed_turns enc decisions opening done turns ++ flat_map (handed_at m) fault.trials) at
-        ∙ handed-tried enc decisions done turns number fault.command fault.trials carried.leads.answered codes_here begin_here
-
-    taken : IsTaken (handed_entries (accepted_in done turns) empty_slots (entries_of turns ++ fault.trials)) (entries_of turns ++ fault.trials) (packets_of turns) before.coder then.coder
-    taken =
-        subst₂ (λ (h : List (Handed T)) (p : List (Packet T O)). IsTaken h (entries_of turns ++ fault.trials) p before.coder then.coder)
-        jobs (append-nil (packets_of turns))
-        (taken-then before.coder now.coder then.coder _ _ _ _ _ _ carried.taken fault.taken)
-
-    logged : moment.log ≡ entries_of turns
-    logged = logged-all enc decisions done turns carried.leads.answered
-
-    selected : AreSelected enc tables moment (entries_of turns) fault.trials
-    selected =
-        subst (λ (l : List LogEntry). AreSelected enc tables moment l fault.trials) logged
-        (subst (λ (m : Moment T O). AreSelected enc tables m m.log fault.trials) at fault.selected)
-
-    scaled : AreScaled (frames_of (picture_sent (accepted_in done turns)) (entries_of turns) ++ frame_of (picture_sent (accepted_in done turns)) fault.command)
-        (scales_of (entries_of turns) ++ fault.scales) before.scales then.scales
-    scaled =
-        subst₂ (λ (f g : List (ℕ × Frame T)). AreScaled (f ++ g) (scales_of (entries_of turns) ++ fault.scales) before.scales then.scales)
-        (scaled-all enc decisions done turns carried.leads.answered)
-        (ap (λ (m : Moment T O). frame_of (picture_at m) fault.command) at ∙ scaled-next enc decisions done turns number fault.command carried.leads.answered codes_here)
-        (scaled-then _ _ before.scales now.scales _ _ then.scales carried.scaled fault.scaled)
-
-    decided : decisions ≡ moment.decisions
-    decided = ap (λ (m : Moment T O). m.decisions) at
-
-    -- a receive asks nobody
-    asked : IsAsked enc (accepted_in done turns) decisions before then
-    asked = record {
-      grew = subst (λ (d : DetectorTold T). Grew before.detector.questions d.questions (questions enc (accepted_in done turns) decisions)) (sym fault.unasked) carried.asked.grew;
-      ahead = carried.asked.ahead;
-    }
-
     Holds : List (Call T O) → Type 0
     Holds first =
-        AreTurns enc decisions first turns
-        × (decisions ≡ (moment_after enc decisions first turns).decisions)
-        × AreKeyDecisions (accepted_in first turns) decisions
-        × IsAsked enc (accepted_in first turns) decisions before then
-        × Codes enc (moment_after enc decisions first turns) number fault.command
-        × (commands_of turns ≡ take number (plan_at enc (moment_after enc decisions first turns)))
-        × BeginTrials enc (moment_after enc decisions first turns) fault.command fault.trials
+        IsStopped enc first turns decisions fault.command fault.trials before then number
         × AreQuantised enc tables decisions first turns
-        × AreSelected enc tables (moment_after enc decisions first turns) (entries_of turns) fault.trials
-        × AreScaled (frames_of (picture_sent (accepted_in first turns)) (entries_of turns) ++ frame_of (picture_sent (accepted_in first turns)) fault.command)
-        (scales_of (entries_of turns) ++ fault.scales) before.scales then.scales
-        × IsTaken (handed_entries (accepted_in first turns) empty_slots (entries_of turns ++ fault.trials)) (entries_of turns ++ fault.trials) (packets_of turns) before.coder then.coder
+        × AreSelected enc tables no_passes (moment_after enc decisions first turns) (entries_of turns) fault.trials
 
     same : take (length done) calls ≡ done
     same = ap (take (length done)) (sym joined) ∙ take-append_seam done (call ∷ rest)
 
     facts : Holds (take (length done) calls)
     facts = subst Holds (sym same) (
-      carried.leads.answered,
-      decided,
-      keys-of enc decisions done turns carried.leads.answered decided,
-      asked,
-      codes_here,
-      planned.0 ∙ ap (λ (n : ℕ). take n (plan_at enc moment)) commands,
-      begin_here,
+      playing-stopped enc tables no_passes done turns (moment_of state) before now then number carried.playing fault,
       carried.quantised,
-      selected,
-      scaled,
-      taken,
+      playing-selected enc tables no_passes done turns (moment_of state) before now then number carried.playing fault,
     )
 
 -- what an error of the loop says
 pub record Stops {T O : Type 0} (enc : EncoderConfig) (tables : Tables) (calls : List (Call T O)) (before after : Heard T) (error : SessionError) : Type 0 where
   pub valid : (v : InvalidConfig) → error ≡ Invalid v → ⊥
   pub fault : (command : ℕ) → error ≡ CoderFault command → FailsAt enc tables calls before after command
+  pub message : (refusal : PassDataError) → error ≡ RefusedData refusal → ⊥
   pub complete : ¬ Rose before.coder.faults after.coder.faults → error ≡ NoMemory
 
 pub carried-stop : {T O : Type 0} (enc : EncoderConfig) (tables : Tables) (done rest calls : List (Call T O)) (turns : List (Turn T O)) (state : SessionState T O)
     (before now then : Heard T) (call : Call T O) (fault : SessionFault) →
     Carried enc tables done turns state before now → done ++ call ∷ rest ≡ calls →
-    Fails enc state.rate.tables call (moment_of state) now then fault → Stops enc tables calls before then (error_of fault)
+    Fails enc state.rate.tables (passes_at state) call (moment_of state) now then fault → Stops enc tables calls before then (error_of fault)
 carried-stop enc tables done rest calls turns state before now then call OutOfMemory carried joined fails = record {
   valid = λ v is. cc;
   fault = λ command is. absurd (cc);
+  message = λ refusal is. cc;
   complete = λ still. refl;
 }
 carried-stop enc tables done rest calls turns state before now then call (Coder number) carried joined fails =
     let failed = carried-fault enc tables done rest calls turns state before now then call number carried joined
-    (subst (λ (t : Tables). Fails enc t call (moment_of state) now then (Coder number)) carried.tables_are fails) in
+    (subst₂ (λ (t : Tables) (p : Passes). Fails enc t p call (moment_of state) now then (Coder number)) carried.tables_are carried.alone fails) in
     record {
       valid = λ v is. cc;
       fault = λ command is. let e : number ≡ command = cc in subst (λ (n : ℕ). FailsAt enc tables calls before then n) e failed;
-      complete = λ still. absurd (still failed.rose);
+      message = λ refusal is. cc;
+      complete = λ still. absurd (still failed.stopped.rose);
     }
+carried-stop enc tables done rest calls turns state before now then call (PassData refusal) carried joined fails = absurd fails

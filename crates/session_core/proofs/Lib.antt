@@ -1,4 +1,5 @@
 mod Along
+mod Beginning
 mod Asked
 mod Asking
 mod CallLoop
@@ -11,8 +12,13 @@ mod History
 mod KnownBehind
 mod Lookahead
 mod LumaIndices
+mod PassMessages
+mod Passing
+mod PassCalling
+mod PassLoop
 mod PlanAt
 mod PlanFronts
+mod Playing
 mod Quantising
 mod RunHistory
 mod Scaling

@@ -6,6 +6,7 @@ use Rattle.quantizers.specs.Tables.{Tables}
 use Rattle.session_core.specs.declared.call.Call.{Call}
 use Rattle.session_core.specs.declared.call.Call.TheVariants.{Send, Flush, Receive}
 use Rattle.session_core.specs.declared.transcript.Decision.{Decision}
+use Rattle.session_log.specs.Passes.{no_passes}
 use Rattle.session_log.specs.declared.entry.LogEntry.{LogEntry}
 use Rattle.session_core.specs.declared.transcript.Reply.{Reply}
 use Rattle.session_core.specs.declared.transcript.Reply.TheVariants.{Sent, Flushed, Packet as GivesPacket, Status}
@@ -65,7 +66,7 @@ logged-all enc decisions done turns are = log_from enc decisions opening done tu
 -- each turn of the list, at its moment
 abbrev QuantisedFrom : {T O : Type 0} → EncoderConfig → Tables → List Decision → Moment T O → List (Call T O) → List (Turn T O) → Type 0
 QuantisedFrom enc tables decisions moment done turns =
-    Runs (λ moment call turn. IsQuantised enc tables moment turn) (after_turn enc decisions) moment done turns
+    Runs (λ moment call turn. IsQuantised enc tables no_passes moment turn) (after_turn enc decisions) moment done turns
 
 quantised_from : {T O : Type 0} (enc : EncoderConfig) (tables : Tables) (decisions : List Decision) (moment : Moment T O) (done : List (Call T O)) (turns : List (Turn T O)) (new : List Decision) →
     Runs (IsTurn enc decisions) (after_turn enc decisions) moment done turns → QuantisedFrom enc tables decisions moment done turns →

@@ -64,5 +64,5 @@ module _ {T O : Type 0} (enc : EncoderConfig) where
 
   pub keeps-schedule : (calls : List (Call T O)) (t : Transcript T O) → AreTurns enc t.decisions calls t.turns →
       t.decisions ≡ (moment_after enc t.decisions calls t.turns).decisions → KeepsSchedule enc calls t
-  keeps-schedule calls t are decided tables others other before after run same =
+  keeps-schedule calls t are decided others other before after run same =
       same-schedule calls t others other are decided run.turns run.decided same

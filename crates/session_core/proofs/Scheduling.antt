@@ -18,18 +18,21 @@ use Rattle.pyramid.specs.Settings.{numbers_of}
 use Rattle.session_core.specs.declared.state.SessionState.{SessionState}
 use Rattle.session_core.specs.declared.transcript.Decision.{Decision}
 use Rattle.http_server.specs.declared.log.Log.{Log}
-use Rattle.session_log.specs.Passes.{no_passes}
-use Rattle.session_log.specs.Keeps.{IsSized, Keeps}
+use Rattle.quantizers.specs.Tables.{Tables}
+use Rattle.session_log.specs.Passes.{Passes, passes_of}
+use Rattle.session_log.specs.Keeps.{IsCodedForGood, IsSized, Keeps, RateKept}
 use Rattle.session_log.specs.declared.entry.LogEntry.{LogEntry}
+use Rattle.session_log.proofs.Logs.{nothing_is_good}
 use Rattle.session_core.specs.declared.transcript.Reply.{Reply}
 use Rattle.session_core.specs.declared.transcript.Reply.TheVariants.{Sent, Flushed, Packet as GivesPacket, Status}
 use Rattle.session_core.specs.Decisions.{decided_count, key_positions, keys_of}
-use Rattle.session_core.specs.Moments.{Moment, known_at, plan_at}
+use Rattle.session_core.specs.Moments.{Moment, known_at, opening, plan_at}
 use Rattle.session_core.specs.Questions.{last_key}
 use Rattle.session_core.specs.States.{moment_of, Decided, IsKept, IsRated, IsScheduled, KeepsLastKey, TakesKeys}
 use Rattle.session_core.specs.Told.{Asked}
 use Rattle.session_core.specs.Turns.{after_receive, frame_limit, needs_more_data, real_entries}
 use Rattle.session_core.proofs.Decided.{keys-append, slice_get-front}
+use Rattle.session_core.proofs.Passing.{keeps-own}
 use Rattle.session_core.proofs.PlanAt.{plan-of, known-begins, known-within}
 
 -- ---- what is kept
@@ -55,9 +58,10 @@ is-kept enc state last schedule rated = (last, schedule, rated)
 pub still-rated : {T O : Type 0} (enc : EncoderConfig) (before after : SessionState T O) → IsRated enc (moment_of before) before.rate →
     after.log ≡ before.log → after.commands ≡ before.commands → after.rate ≡ before.rate → IsRated enc (moment_of after) after.rate
 still-rated {T} {O} enc before after rated same_log same_commands same_rate = rw same_rate (record {
-  keeps = subst (λ (log : List LogEntry). Keeps enc before.rate.tables no_passes log before.rate) (sym logged) rated.keeps;
+  keeps = subst (λ (log : List LogEntry). Keeps enc before.rate.tables (passes_of before.rate.state) log before.rate) (sym logged) rated.keeps;
   few = rw (logged, same_commands) rated.few;
   sized = subst (λ (log : List LogEntry). All IsSized log) (sym logged) rated.sized;
+  good = subst (λ (log : List LogEntry). IsCodedForGood log) (sym logged) rated.good;
 })
   where
     logged : (moment_of after).log ≡ (moment_of before).log
@@ -66,7 +70,7 @@ still-rated {T} {O} enc before after rated same_log same_commands same_rate = rw
 -- before the first frame
 pub kept-opening : {T O : Type 0} (enc : EncoderConfig) (state : SessionState T O) → state.accepted ≡ 0 → state.flushed ≡ false → state.commands ≡ 0 → state.decisions.items ≡ [] →
     state.last_key ≡ 0 → IsSchedule (numbers_of enc) (interval_of enc.max_key_frame_interval) 0 false [] 0 state.schedule →
-    state.log.items ≡ [] → Keeps enc state.rate.tables no_passes [] state.rate → IsKept enc state
+    state.log.items ≡ [] → Keeps enc state.rate.tables (passes_of state.rate.state) [] state.rate → IsKept enc state
 kept-opening {T} {O} enc state accepted flushed commands decisions last schedule none keeps = is-kept enc state kept_last scheduled rated
   where
     kept_last : KeepsLastKey state
@@ -80,10 +84,27 @@ kept-opening {T} {O} enc state accepted flushed commands decisions last schedule
 
     rated : IsRated enc (moment_of state) state.rate
     rated = record {
-      keeps = subst (λ (log : List LogEntry). Keeps enc state.rate.tables no_passes log state.rate) (sym empty) keeps;
+      keeps = subst (λ (log : List LogEntry). Keeps enc state.rate.tables (passes_of state.rate.state) log state.rate) (sym empty) keeps;
       few = subst (λ (log : List LogEntry). length log ≤ state.commands * 2) (sym empty) zero-le;
       sized = subst (λ (log : List LogEntry). All IsSized log) (sym empty) (All-nil IsSized);
+      good = subst (λ (log : List LogEntry). IsCodedForGood log) (sym empty) nothing_is_good;
     }
+
+-- where only rate control changes, and stays that of the log
+pub kept-rate : {T O : Type 0} (enc : EncoderConfig) (state : SessionState T O) (rate : RateKept) → IsKept enc state →
+    Keeps enc rate.tables (passes_of rate.state) (moment_of state).log rate → IsKept enc (record state { rate = rate })
+kept-rate enc state rate kept keeps = is-kept enc (record state { rate = rate }) (kept-last_key enc state kept) (kept-schedule enc state kept) (record {
+  keeps = keeps;
+  few = (kept-rated enc state kept).few;
+  sized = (kept-rated enc state kept).sized;
+  good = (kept-rated enc state kept).good;
+})
+
+pub kept-moved : {T O : Type 0} (enc : EncoderConfig) (state : SessionState T O) (passes : Passes) (rate : RateKept) → IsKept enc state → rate.tables ≡ state.rate.tables →
+    Keeps enc state.rate.tables passes (moment_of state).log rate → IsKept enc (record state { rate = rate })
+kept-moved enc state passes rate kept same keeps =
+    kept-rate enc state rate kept (subst (λ (t : Tables). Keeps enc t (passes_of rate.state) (moment_of state).log rate) (sym same)
+    (keeps-own enc state.rate.tables passes (moment_of state).log rate keeps))
 
 -- ---- keys
 
@@ -243,3 +264,21 @@ received-scheduled {T} {O} enc moment log reply schedule one is = by_reply reply
     by_reply (Sent number) = counted
     by_reply Flushed = counted
     by_reply (Status status) = counted
+
+-- before the first frame the schedule is that of no frames
+pub scheduled-opening : {T O : Type 0} (enc : EncoderConfig) (state : SessionState T O) → IsKept enc state → moment_of state ≡ opening →
+    IsScheduled {T = Unit {0}} {O = Unit {0}} enc opening state.schedule
+scheduled-opening {T} {O} enc state kept opens = subst (λ (m : Moment T O). IsScheduled enc m state.schedule) opens (kept-schedule enc state kept)
+
+-- rate control is that of no entries then
+pub keeps-opening : {T O : Type 0} (enc : EncoderConfig) (state : SessionState T O) → IsKept enc state → moment_of state ≡ opening →
+    Keeps enc state.rate.tables (passes_of state.rate.state) [] state.rate
+keeps-opening {T} {O} enc state kept opens =
+    subst (λ (log : List LogEntry). Keeps enc state.rate.tables (passes_of state.rate.state) log state.rate) (ap (λ (m : Moment T O). m.log) opens) (kept-rated enc state kept).keeps
+
+-- where only rate control changes before the first frame
+pub kept-begun : {T O : Type 0} (enc : EncoderConfig) (state : SessionState T O) (passes : Passes) (rate : RateKept) → IsKept enc state → moment_of state ≡ opening →
+    rate.tables ≡ state.rate.tables → Keeps enc state.rate.tables passes [] rate → IsKept enc (record state { rate = rate })
+kept-begun {T} {O} enc state passes rate kept opens same keeps =
+    kept-moved enc state passes rate kept same
+    (subst (λ (log : List LogEntry). Keeps enc state.rate.tables passes log rate) (sym (ap (λ (m : Moment T O). m.log) opens)) keeps)

@@ -11,14 +11,14 @@ use Rattle.av1_settings.specs.declared.encoder.EncoderConfig.{EncoderConfig}
 use Rattle.pyramid.specs.declared.command.Command.{Command}
 use Rattle.pyramid.specs.Known.{is_coding}
 use Rattle.quantizers.specs.Tables.{Tables}
-use Rattle.session_log.specs.Passes.{Passes, no_passes, passes_after}
-use Rattle.session_log.specs.Keeps.{IsLog, IsSized, Keeps, RateKept}
+use Rattle.session_log.specs.Passes.{Passes, passes_after, passes_of}
+use Rattle.session_log.specs.Keeps.{IsCodedForGood, IsLog, IsSized, Keeps, RateKept}
 use Rattle.session_log.specs.Selection.{is_trial_due, reservoir_after}
 use Rattle.session_log.specs.declared.entry.LogEntry.{LogEntry}
 use Rattle.session_core.specs.declared.call.Call.TheVariants.{Receive}
 use Rattle.session_core.specs.declared.coded.Coded.{Coded}
 use Rattle.session_core.specs.declared.fault.SessionFault.{SessionFault}
-use Rattle.session_core.specs.declared.fault.SessionFault.TheVariants.{Coder, OutOfMemory}
+use Rattle.session_core.specs.declared.fault.SessionFault.TheVariants.{Coder, OutOfMemory, PassData}
 use Rattle.session_core.specs.declared.state.SessionState.{SessionState}
 use Rattle.session_core.specs.declared.transcript.Decision.{Decision}
 use Rattle.session_core.specs.declared.transcript.Reply.{Reply}
@@ -26,26 +26,18 @@ use Rattle.session_core.specs.declared.transcript.Reply.TheVariants.{Sent, Flush
 use Rattle.session_core.specs.declared.transcript.Turn.{Turn}
 use Rattle.session_core.specs.Moments.{Moment, known_at, plan_at}
 use Rattle.session_core.specs.Questions.{last_key}
-use Rattle.session_core.specs.Quantisers.{AreSelected, IsQuantised, quantisers_at}
+use Rattle.session_core.specs.Quantisers.{AreSelected, IsQuantised, passes_behind, quantisers_at}
 use Rattle.session_core.specs.Scales.{AreScaled, IsScaled, frame_of, frames_of, picture_at, scale_list, scales_of}
 use Rattle.session_core.specs.States.{moment_of, CanCode, FailsCoding, IsAdvanced, IsCoded, IsCodedTurn, IsKept, IsRated, IsRatedBehind, IsScheduled, IsTried}
 use Rattle.session_core.specs.Steps.{Fails}
 use Rattle.session_core.specs.Taken.{IsTaken, handed_at, packet_of}
 use Rattle.session_core.specs.Told.{CoderTold, Counts, DetectorTold, FailsBehind, Handed, IsCoderLater, ScalesTold, heard}
 use Rattle.session_core.specs.Turns.{AreTrials, BeginTrials, CodesNext, IsTrial, after_receive, held_back, noted_all, real_entries}
+use Rattle.session_log.proofs.Logs.{good_behind}
+use Rattle.session_core.proofs.Passing.{behind-nothing, behind-push, keeps-own}
 use Rattle.session_core.proofs.Scheduling.{is-kept, kept-last_key, kept-schedule, received-scheduled}
 use Rattle.session_core.proofs.StateLemmas.{taken-tried}
 use Rattle.session_core.proofs.Telling.{ahead-nothing, counts-fault, counts-none, counts-then, taken-none, taken-then}
-
--- ---- in one pass
-
--- an entry leaves no passes as they are
-pub one-pass : (enc : EncoderConfig) (tables : Tables) (log : List LogEntry) (entry : LogEntry) (rate : RateKept) →
-    Keeps enc tables (passes_after enc no_passes log entry) (log ++ entry ∷ []) rate → Keeps enc tables no_passes (log ++ entry ∷ []) rate
-one-pass enc tables log entry rate keeps = subst (λ (passes : Passes). Keeps enc tables passes (log ++ entry ∷ []) rate) still keeps
-  where
-    still : passes_after enc no_passes log entry ≡ no_passes
-    still = elim (int_lt (pos 0) enc.bitrate) as (λ b. cond b no_passes no_passes ≡ no_passes) [ true ↦ refl | false ↦ refl ]
 
 -- ---- what is tried
 
@@ -107,9 +99,9 @@ begin-none enc m command = by_due (is_trial_due enc m.log command) refl
     by_due true e = (made ∷ [], trials-one enc m command made e refl refl)
     by_due false e = ([], trials-none enc m command e)
 
-pub tried-nothing : {T O : Type 0} (enc : EncoderConfig) (tables : Tables) (m : Moment T O) (command : Command) (scale : ℤ) (told : CoderTold T) →
-    is_trial_due enc m.log command ≡ false → IsTried enc tables m command scale [] told told
-tried-nothing enc tables m command scale told e = record {
+pub tried-nothing : {T O : Type 0} (enc : EncoderConfig) (tables : Tables) (passes : Passes) (m : Moment T O) (command : Command) (scale : ℤ) (told : CoderTold T) →
+    is_trial_due enc m.log command ≡ false → IsTried enc tables passes m command scale [] told told
+tried-nothing enc tables passes m command scale told e = record {
   tried = trials-none enc m command e;
   selected = tt;
   alike = All-nil (λ (trial : LogEntry). trial.mean_scale ≡ scale);
@@ -117,12 +109,12 @@ tried-nothing enc tables m command scale told e = record {
   counted = counts-none told.fails_after;
 }
 
-pub tried-once : {T O : Type 0} (enc : EncoderConfig) (tables : Tables) (m : Moment T O) (command : Command) (scale : ℤ) (coded : Coded T) (told now : CoderTold T) →
+pub tried-once : {T O : Type 0} (enc : EncoderConfig) (tables : Tables) (passes : Passes) (m : Moment T O) (command : Command) (scale : ℤ) (coded : Coded T) (told now : CoderTold T) →
     m.packets + length m.waiting ≡ m.accepted → CanCode m command → is_trial_due enc m.log command ≡ true →
     coded.entry.command ≡ command → coded.entry.trial ≡ true → coded.entry.mean_scale ≡ cond (is_coding command) scale (pos 0) →
-    coded.entry.quant ≡ quantisers_at enc tables m m.log coded.entry → IsCoded m told now coded → now.gives ≡ told.gives →
-    IsTried enc tables m command scale (coded.entry ∷ []) told now
-tried-once {T} {O} enc tables m command scale coded told now waits can e same tried scaled quant is gives = record {
+    coded.entry.quant ≡ quantisers_at enc tables passes m m.log coded.entry → IsCoded m told now coded → now.gives ≡ told.gives →
+    IsTried enc tables passes m command scale (coded.entry ∷ []) told now
+tried-once {T} {O} enc tables passes m command scale coded told now waits can e same tried scaled quant is gives = record {
   tried = trials-one enc m command coded.entry e same tried;
   selected = (quant, tt);
   alike = All-cons (λ (trial : LogEntry). trial.mean_scale ≡ scale) coded.entry []
@@ -136,7 +128,7 @@ tried-once {T} {O} enc tables m command scale coded told now waits can e same tr
 
 pub rated-none : {T O : Type 0} (enc : EncoderConfig) (m : Moment T O) (rate : RateKept) → IsRated enc m rate → IsRatedBehind enc rate.tables m [] rate
 rated-none enc m rate rated = record {
-  keeps = subst (λ (log : List LogEntry). Keeps enc rate.tables no_passes log rate) (sym (append-nil m.log)) rated.keeps;
+  keeps = subst (λ (log : List LogEntry). Keeps enc rate.tables (passes_of rate.state) log rate) (sym (append-nil m.log)) rated.keeps;
   few = rated.few;
   sized = subst (All IsSized) (sym (append-nil m.log)) rated.sized;
 }
@@ -151,10 +143,11 @@ next-log enc tables m entries entry rate rated short room sized =
       sized = All-push IsSized (m.log ++ entries) entry rated.sized sized;
     }
 
-pub rated-next : {T O : Type 0} (enc : EncoderConfig) (tables : Tables) (m : Moment T O) (entries : List LogEntry) (entry : LogEntry) (rate then : RateKept) →
-    IsRatedBehind enc tables m entries rate → IsSized entry → Keeps enc tables no_passes ((m.log ++ entries) ++ entry ∷ []) then → IsRatedBehind enc tables m (entries ++ entry ∷ []) then
-rated-next enc tables m entries entry rate then rated sized keeps = record {
-  keeps = subst (λ (log : List LogEntry). Keeps enc tables no_passes log then) (append_assoc m.log entries (entry ∷ [])) keeps;
+pub rated-next : {T O : Type 0} (enc : EncoderConfig) (tables : Tables) (passes : Passes) (m : Moment T O) (entries : List LogEntry) (entry : LogEntry) (rate then : RateKept) →
+    IsRatedBehind enc tables m entries rate → IsSized entry → Keeps enc tables passes ((m.log ++ entries) ++ entry ∷ []) then → IsRatedBehind enc tables m (entries ++ entry ∷ []) then
+rated-next enc tables passes m entries entry rate then rated sized keeps = record {
+  keeps = subst (λ (log : List LogEntry). Keeps enc tables (passes_of then.state) log then) (append_assoc m.log entries (entry ∷ []))
+      (keeps-own enc tables passes ((m.log ++ entries) ++ entry ∷ []) then keeps);
   few = rated.few;
   sized = subst (All IsSized) (append_assoc m.log entries (entry ∷ [])) (All-push IsSized (m.log ++ entries) entry rated.sized sized);
 }
@@ -209,8 +202,9 @@ after-tries {T} {O} m after trials entry reply marked real is = ap with_log is �
 
 -- ---- a receive
 
-module _ {T O : Type 0} (enc : EncoderConfig) (tables : Tables) (m : Moment T O) (command : Command) (scale : ℤ) (trials : List LogEntry) (turn : Turn T O) (told between now : CoderTold T)
-    (tries : IsTried enc tables m command scale trials told between) (coded : IsCodedTurn enc tables m command scale trials turn between now) where
+module _ {T O : Type 0} (enc : EncoderConfig) (tables : Tables) (passes tried after : Passes) (m : Moment T O) (command : Command) (scale : ℤ) (trials : List LogEntry) (turn : Turn T O) (told between now : CoderTold T)
+    (tries : IsTried enc tables passes m command scale trials told between) (moved : tried ≡ passes_behind enc passes m.log trials)
+    (coded : IsCodedTurn enc tables tried after m command scale trials turn between now) where
   did : Tries command trials
   did = tries-of enc m command trials tries.tried
 
@@ -233,20 +227,37 @@ module _ {T O : Type 0} (enc : EncoderConfig) (tables : Tables) (m : Moment T O)
   pub turn-short : length turn.log ≤ 2
   turn-short = omega (arith, tries-few command trials did, ap (λ (l : List LogEntry). length l) coded.log, length-append trials (coded.entry ∷ []))
 
-  pub turn-quantised : IsQuantised enc tables m turn
+  pub turn-passes : after ≡ passes_behind enc passes m.log turn.log
+  turn-passes =
+      coded.moved ∙ ap (λ (p : Passes). passes_after enc p (m.log ++ trials) coded.entry) moved
+      ∙ behind-push enc passes m.log trials coded.entry
+      ∙ ap (passes_behind enc passes m.log) (sym coded.log)
+
+  pub turn-quantised : IsQuantised enc tables passes m turn
   turn-quantised = record {
-    selected = subst (λ (log : List LogEntry). AreSelected enc tables m m.log log) (sym coded.log) (push m.log trials tries.selected coded.quant);
-    reservoir = coded.reservoir;
+    selected = subst (λ (log : List LogEntry). AreSelected enc tables passes m m.log log) (sym coded.log)
+        (push passes m.log trials tries.selected
+        (subst (λ (p : Passes). coded.entry.quant ≡ quantisers_at enc tables p m (m.log ++ trials) coded.entry) moved coded.quant));
+    reservoir = coded.reservoir ∙ ap (λ (p : Passes). reservoir_after enc p (m.log ++ turn.log)) turn-passes;
   }
     where
-      push : (before entries : List LogEntry) → AreSelected enc tables m before entries → coded.entry.quant ≡ quantisers_at enc tables m (before ++ entries) coded.entry →
-          AreSelected enc tables m before (entries ++ coded.entry ∷ [])
-      push before [] selected quant = (subst (λ (log : List LogEntry). coded.entry.quant ≡ quantisers_at enc tables m log coded.entry) (append-nil before) quant, tt)
-      push before (one ∷ entries) selected quant = (
+      push : (p : Passes) (before entries : List LogEntry) → AreSelected enc tables p m before entries →
+          coded.entry.quant ≡ quantisers_at enc tables (passes_behind enc p before entries) m (before ++ entries) coded.entry →
+          AreSelected enc tables p m before (entries ++ coded.entry ∷ [])
+      push p before [] selected quant = (subst (λ (log : List LogEntry). coded.entry.quant ≡ quantisers_at enc tables p m log coded.entry) (append-nil before) quant, tt)
+      push p before (one ∷ entries) selected quant = (
         selected.0,
-        push (before ++ one ∷ []) entries selected.1
-            (subst (λ (log : List LogEntry). coded.entry.quant ≡ quantisers_at enc tables m log coded.entry) (sym (append_assoc before (one ∷ []) entries)) quant),
+        push (passes_after enc p before one) (before ++ one ∷ []) entries selected.1
+            (subst (λ (log : List LogEntry). coded.entry.quant
+            ≡ quantisers_at enc tables (passes_behind enc (passes_after enc p before one) (before ++ one ∷ []) entries) m log coded.entry)
+            (sym (append_assoc before (one ∷ []) entries)) quant),
       )
+
+  -- behind the turn the last entry is for good
+  pub turn-good : IsCodedForGood (m.log ++ turn.log)
+  turn-good =
+      subst (λ (log : List LogEntry). IsCodedForGood log) (append_assoc m.log trials (coded.entry ∷ []) ∙ ap (λ (log : List LogEntry). m.log ++ log) (sym coded.log))
+      (good_behind (m.log ++ trials) coded.entry coded.real)
 
   pub turn-taken : IsTaken (flat_map (handed_at m) turn.log) turn.log (packet_of turn.reply) told now
   turn-taken =
@@ -309,70 +320,72 @@ received-count m log Flushed = refl
 received-count m log (Status status) = refl
 
 received-rated : {T O : Type 0} (enc : EncoderConfig) (m : Moment T O) (log : List LogEntry) (reply : Reply T O) (tables : Tables) (rate : RateKept) →
-    length (real_entries log) ≡ 1 → length log ≤ 2 → IsRatedBehind enc tables m log rate → rate.tables ≡ tables → IsRated enc (after_receive m log reply) rate
-received-rated {T} {O} enc m log reply tables rate one short rated same = record {
-  keeps = subst (λ (t : Tables). Keeps enc t no_passes (after_receive m log reply).log rate) (sym same)
-      (subst (λ (l : List LogEntry). Keeps enc tables no_passes l rate) (sym (received-log m log reply)) rated.keeps);
+    length (real_entries log) ≡ 1 → length log ≤ 2 → IsCodedForGood (m.log ++ log) → IsRatedBehind enc tables m log rate → rate.tables ≡ tables → IsRated enc (after_receive m log reply) rate
+received-rated {T} {O} enc m log reply tables rate one short good rated same = record {
+  keeps = subst (λ (t : Tables). Keeps enc t (passes_of rate.state) (after_receive m log reply).log rate) (sym same)
+      (subst (λ (l : List LogEntry). Keeps enc tables (passes_of rate.state) l rate) (sym (received-log m log reply)) rated.keeps);
   few = few (length (after_receive m log reply).log) (length m.log) (length log) (after_receive m log reply).commands m.commands (length (real_entries log))
       (ap (λ (l : List LogEntry). length l) (received-log m log reply) ∙ length-append m.log log) (received-count m log reply) rated.few short one;
   sized = subst (All IsSized) (sym (received-log m log reply)) rated.sized;
+  good = subst (λ (l : List LogEntry). IsCodedForGood l) (sym (received-log m log reply)) good;
 }
   where
     few : (all old new after before real : ℕ) → all ≡ old + new → after ≡ before + real → old ≤ before * 2 → new ≤ 2 → real ≡ 1 → all ≤ after * 2
     few all old new after before real a b c d e = omega (arith, a, b, c, d, e)
 
-kept-received : {T O : Type 0} (enc : EncoderConfig) (before after : SessionState T O) (command : Command) (scale : ℤ) (trials : List LogEntry) (turn : Turn T O) (told between now : CoderTold T) →
-    IsTried enc before.rate.tables (moment_of before) command scale trials told between →
-    IsCodedTurn enc before.rate.tables (moment_of before) command scale trials turn between now → IsKept enc before →
+kept-received : {T O : Type 0} (enc : EncoderConfig) (passes tried then_passes : Passes) (before after : SessionState T O) (command : Command) (scale : ℤ) (trials : List LogEntry) (turn : Turn T O) (told between now : CoderTold T) →
+    IsTried enc before.rate.tables passes (moment_of before) command scale trials told between → tried ≡ passes_behind enc passes (moment_of before).log trials →
+    IsCodedTurn enc before.rate.tables tried then_passes (moment_of before) command scale trials turn between now → IsKept enc before →
     after.last_key ≡ before.last_key → moment_of after ≡ after_receive (moment_of before) turn.log turn.reply → IsAdvanced before.schedule after.schedule →
     before.commands < length (known_at enc (moment_of before)) → IsRatedBehind enc before.rate.tables (moment_of before) turn.log after.rate →
     after.rate.tables ≡ before.rate.tables → IsKept enc after
-kept-received {T} {O} enc before after command scale trials turn told between now tries coded kept last leads advanced there rated same =
+kept-received {T} {O} enc passes tried then_passes before after command scale trials turn told between now tries moved coded kept last leads advanced there rated same =
     is-kept enc after
     (last ∙ kept-last_key enc before kept ∙ ap (λ (d : List Decision). last_key d (length d + 1)) (sym decided))
     (subst (λ (moment : Moment T O). IsScheduled enc moment after.schedule) (sym leads)
     (received-scheduled enc (moment_of before) turn.log turn.reply after.schedule one (advanced _ _ _ _ _ _ there (kept-schedule enc before kept))))
     (subst (λ (moment : Moment T O). IsRated enc moment after.rate) (sym leads)
     (received-rated enc (moment_of before) turn.log turn.reply before.rate.tables after.rate one
-    (turn-short enc before.rate.tables (moment_of before) command scale trials turn told between now tries coded) rated same))
+    (turn-short enc before.rate.tables passes tried then_passes (moment_of before) command scale trials turn told between now tries moved coded)
+    (turn-good enc before.rate.tables passes tried then_passes (moment_of before) command scale trials turn told between now tries moved coded) rated same))
   where
     decided : after.decisions.items ≡ before.decisions.items
     decided = ap (λ (moment : Moment T O). moment.decisions) leads ∙ received-decisions (moment_of before) turn.log turn.reply
 
     one : length (real_entries turn.log) ≡ 1
-    one = ap (λ (l : List LogEntry). length l) (turn-real enc before.rate.tables (moment_of before) command scale trials turn told between now tries coded)
+    one = ap (λ (l : List LogEntry). length l) (turn-real enc before.rate.tables passes tried then_passes (moment_of before) command scale trials turn told between now tries moved coded)
 
 -- where the command was answered
-pub kept-answered : {T O E : Type 0} (enc : EncoderConfig) (before after : SessionState T O) (command : Command) (scale : ℤ) (trials : List LogEntry) (result : Result (Turn T O) E) (told between now : CoderTold T) →
-    IsTried enc before.rate.tables (moment_of before) command scale trials told between →
-    IfOk result (λ turn. IsCodedTurn enc before.rate.tables (moment_of before) command scale trials turn between now) → IsKept enc before →
+pub kept-answered : {T O E : Type 0} (enc : EncoderConfig) (passes tried then_passes : Passes) (before after : SessionState T O) (command : Command) (scale : ℤ) (trials : List LogEntry) (result : Result (Turn T O) E) (told between now : CoderTold T) →
+    IsTried enc before.rate.tables passes (moment_of before) command scale trials told between → tried ≡ passes_behind enc passes (moment_of before).log trials →
+    IfOk result (λ turn. IsCodedTurn enc before.rate.tables tried then_passes (moment_of before) command scale trials turn between now) → IsKept enc before →
     after.last_key ≡ before.last_key → IfOk result (λ turn. moment_of after ≡ after_receive (moment_of before) turn.log turn.reply) →
     OnOk result (IsAdvanced before.schedule after.schedule) → before.commands < length (known_at enc (moment_of before)) →
     IfOk result (λ turn. IsRatedBehind enc before.rate.tables (moment_of before) turn.log after.rate) →
     after.rate.tables ≡ before.rate.tables → OnOk result (IsKept enc after)
-kept-answered enc before after command scale trials (Ok turn) told between now tries coded kept last leads advanced there rated same =
-    kept-received enc before after command scale trials turn told between now tries coded kept last leads advanced there rated same
-kept-answered enc before after command scale trials (Err error) told between now tries coded kept last leads advanced there rated same = tt
+kept-answered enc passes tried then_passes before after command scale trials (Ok turn) told between now tries moved coded kept last leads advanced there rated same =
+    kept-received enc passes tried then_passes before after command scale trials turn told between now tries moved coded kept last leads advanced there rated same
+kept-answered enc passes tried then_passes before after command scale trials (Err error) told between now tries moved coded kept last leads advanced there rated same = tt
 
 -- ---- a call that codes nothing
 
-pub quiet-quantised : {T O : Type 0} (enc : EncoderConfig) (tables : Tables) (m : Moment T O) (turn : Turn T O) → turn.log ≡ [] → turn.reservoir ≡ reservoir_after enc no_passes m.log →
-    IsQuantised enc tables m turn
-quiet-quantised enc tables m turn none held = record {
-  selected = subst (λ (log : List LogEntry). AreSelected enc tables m m.log log) (sym none) tt;
-  reservoir = held ∙ ap (reservoir_after enc no_passes) (sym (ap (λ (log : List LogEntry). m.log ++ log) none ∙ append-nil m.log));
+pub quiet-quantised : {T O : Type 0} (enc : EncoderConfig) (tables : Tables) (passes : Passes) (m : Moment T O) (turn : Turn T O) → turn.log ≡ [] → turn.reservoir ≡ reservoir_after enc passes m.log →
+    IsQuantised enc tables passes m turn
+quiet-quantised enc tables passes m turn none held = record {
+  selected = subst (λ (log : List LogEntry). AreSelected enc tables passes m m.log log) (sym none) tt;
+  reservoir = held ∙ ap₂ (reservoir_after enc) (sym (behind-nothing enc passes m.log turn.log none)) (sym (ap (λ (log : List LogEntry). m.log ++ log) none ∙ append-nil m.log));
 }
 
 -- ---- a call of the coder that fails
 
-pub coding-fails : {T O : Type 0} (enc : EncoderConfig) (tables : Tables) (m : Moment T O) (command : Command) (trials : List LogEntry) (values : List ℤ)
+pub coding-fails : {T O : Type 0} (enc : EncoderConfig) (tables : Tables) (passes : Passes) (m : Moment T O) (command : Command) (trials : List LogEntry) (values : List ℤ)
     (told between now : CoderTold T) (detector : DetectorTold T) (scales then : ScalesTold T) (fault : SessionFault) →
-    held_back enc m ≡ None → slice_get (plan_at enc m) m.commands ≡ Some command → BeginTrials enc m command trials → AreSelected enc tables m m.log trials →
+    held_back enc m ≡ None → slice_get (plan_at enc m) m.commands ≡ Some command → BeginTrials enc m command trials → AreSelected enc tables passes m m.log trials →
     AreScaled (frame_of (picture_at m) command) values scales then → map (λ trial. trial.mean_scale) trials ≡ take (length trials) values →
     IsTaken {T = T} {O = O} (flat_map (handed_at m) trials) trials [] told between → Counts told.fails_after between.fails_after (length trials) →
     IsCoderLater told between → now.gives ≡ between.gives → FailsCoding m.commands between now fault →
-    Fails enc tables Receive m (heard told detector scales) (heard now detector then) fault
-coding-fails {T} {O} enc tables m command trials values told between now detector scales then (Coder number) due next begin selected scaled alike taken counted later same fails = (
+    Fails enc tables passes Receive m (heard told detector scales) (heard now detector then) fault
+coding-fails {T} {O} enc tables passes m command trials values told between now detector scales then (Coder number) due next begin selected scaled alike taken counted later same fails = (
   refl,
   record {
     command = command;
@@ -407,4 +420,5 @@ coding-fails {T} {O} enc tables m command trials values told between now detecto
       ahead = ahead-nothing between;
       gives = same;
     }
-coding-fails enc tables m command trials values told between now detector scales then OutOfMemory due next begin selected scaled alike taken counted later same fails = tt
+coding-fails enc tables passes m command trials values told between now detector scales then OutOfMemory due next begin selected scaled alike taken counted later same fails = tt
+coding-fails enc tables passes m command trials values told between now detector scales then (PassData refusal) due next begin selected scaled alike taken counted later same fails = absurd fails

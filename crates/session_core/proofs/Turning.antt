@@ -6,7 +6,7 @@ use Rattle.av1_frame.specs.Planes.{fits}
 use Rattle.av1_settings.specs.declared.encoder.EncoderConfig.{EncoderConfig}
 use Rattle.av1_settings.specs.declared.status.EncoderStatus.TheVariants.{EnoughData, FrameSizeMismatch}
 use Rattle.quantizers.specs.Tables.{Tables}
-use Rattle.session_log.specs.Passes.{no_passes}
+use Rattle.session_log.specs.Passes.{Passes}
 use Rattle.session_log.specs.declared.entry.LogEntry.{LogEntry}
 use Rattle.session_log.specs.Selection.{reservoir_after}
 use Rattle.session_core.specs.declared.call.Call.{Call}
@@ -24,6 +24,7 @@ use Rattle.session_core.specs.Turns.{IsTurn, after_receive, after_turn, has_enou
 use Rattle.session_core.proofs.Deciding.{asked-none}
 use Rattle.session_core.proofs.Scaling.{scaled-none}
 use Rattle.session_core.proofs.Telling.{counts-none, taken-none}
+use Rattle.session_core.proofs.Trying.{quiet-quantised}
 
 -- a send gives no packet
 pub sent-packet : {T O : Type 0} (enc : EncoderConfig) (moment : Moment T O) (picture : Frame T) → packet_of (sent_reply enc moment picture) ≡ []
@@ -35,19 +36,16 @@ sent-packet {T} {O} enc moment picture = by_test (has_enough enc moment) (fits p
     by_test false false = refl
 
 -- a call that codes nothing
-pub quiet-step : {T O : Type 0} (enc : EncoderConfig) (tables : Tables) (call : Call T O) (turn : Turn T O) (before after : Moment T O)
+pub quiet-step : {T O : Type 0} (enc : EncoderConfig) (tables : Tables) (passes : Passes) (call : Call T O) (turn : Turn T O) (before after : Moment T O)
     (coder : CoderTold T) (detector now : DetectorTold T) (scales : ScalesTold T) →
-    turn.log ≡ [] → turn.reservoir ≡ reservoir_after enc no_passes before.log → packet_of turn.reply ≡ [] →
+    turn.log ≡ [] → turn.reservoir ≡ reservoir_after enc passes before.log → packet_of turn.reply ≡ [] →
     IsTurn enc after.decisions before call turn → after ≡ after_turn enc after.decisions before call turn →
     IsAskedIn enc before after detector.questions now.questions detector.answers →
-    IsStep enc tables call turn before after (heard coder detector scales) (heard coder now scales)
-quiet-step {T} {O} enc tables call turn before after coder detector now scales log reservoir packet is leads asked = record {
+    IsStep enc tables passes call turn before after (heard coder detector scales) (heard coder now scales)
+quiet-step {T} {O} enc tables passes call turn before after coder detector now scales log reservoir packet is leads asked = record {
   answered = is;
   moment = leads;
-  quantised = record {
-    selected = rw log tt;
-    reservoir = reservoir ∙ ap (reservoir_after enc no_passes) (sym (append-nil before.log)) ∙ ap (λ (l : List LogEntry). reservoir_after enc no_passes (before.log ++ l)) (sym log);
-  };
+  quantised = quiet-quantised enc tables passes before turn log reservoir;
   taken = rw (log, packet) (taken-none coder);
   counted = rw log (counts-none coder.fails_after);
   asked = asked;
@@ -55,15 +53,15 @@ quiet-step {T} {O} enc tables call turn before after coder detector now scales l
 }
 
 -- a receive, which asks nobody
-pub receive-step : {T O E : Type 0} (enc : EncoderConfig) (tables : Tables) (result : Result (Turn T O) E) (before after : Moment T O)
+pub receive-step : {T O E : Type 0} (enc : EncoderConfig) (tables : Tables) (passes : Passes) (result : Result (Turn T O) E) (before after : Moment T O)
     (coder now : CoderTold T) (detector : DetectorTold T) (scales then : ScalesTold T) →
     IfOk result (λ turn. IsTurn enc after.decisions before Receive turn) → IfOk result (λ turn. after ≡ after_receive before turn.log turn.reply) →
-    IfOk result (λ turn. after.decisions ≡ before.decisions) → IfOk result (λ turn. IsQuantised enc tables before turn) →
+    IfOk result (λ turn. after.decisions ≡ before.decisions) → IfOk result (λ turn. IsQuantised enc tables passes before turn) →
     IfOk result (λ turn. IsTaken (flat_map (handed_at before) turn.log) turn.log (packet_of turn.reply) coder now) →
     IfOk result (λ turn. Counts coder.fails_after now.fails_after (length turn.log)) → IfOk result (λ turn. IsScaled before turn.log scales then) →
-    IfOk result (λ turn. IsStep enc tables Receive turn before after (heard coder detector scales) (heard now detector then))
-receive-step enc tables (Err error) before after coder now detector scales then is leads same quantised taken counted scaled = tt
-receive-step enc tables (Ok turn) before after coder now detector scales then is leads same quantised taken counted scaled = record {
+    IfOk result (λ turn. IsStep enc tables passes Receive turn before after (heard coder detector scales) (heard now detector then))
+receive-step enc tables passes (Err error) before after coder now detector scales then is leads same quantised taken counted scaled = tt
+receive-step enc tables passes (Ok turn) before after coder now detector scales then is leads same quantised taken counted scaled = record {
   answered = is;
   moment = leads;
   quantised = quantised;

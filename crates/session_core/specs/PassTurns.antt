@@ -1,6 +1,6 @@
 -- The reply table of a session in two passes: its calls are those of a session in one pass, and two that hand pass data over. A
 -- receive waits while pass data is missing.
-use Rattle.std.specs.Prelude.{◌≡◌, Bool, true, false, not, ◌&&◌, is_none, if◌then◌else◌, MatchBool, MatchOption, List, [], ◌∷◌, map, Option, None, Some}
+use Rattle.std.specs.Prelude.{◌≡◌, ℕ, Bool, true, false, not, ◌&&◌, is_none, if◌then◌else◌, MatchBool, MatchOption, List, [], ◌∷◌, map, Option, None, Some}
 use Rattle.coding_base.specs.Runs.{Runs, after_calls}
 use Rattle.av1_settings.specs.declared.encoder.EncoderConfig.{EncoderConfig}
 use Rattle.av1_settings.specs.declared.rate_control.RateControlConfig.{RateControlConfig}

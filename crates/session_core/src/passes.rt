@@ -1,9 +1,12 @@
 // What a session in two passes does beside the calls of one pass: how its passes begin, when a receive waits for pass data, and
 // how that is taken and given.
-ghost use Rattle.std.specs.Prelude.{◌≡◌, ◌≤◌, ◌^◌, None, Err, IfOk, IfErr, IsErr, IsSome, OnOk, false};
+ghost use Rattle.std.specs.Prelude.{◌≡◌, ◌≤◌, ◌^◌, ℕ, None, Err, IfOk, IfErr, IsErr, IsOk, IsSome, OnOk, false, true, if◌then◌else◌};
+ghost use Rattle.session_core.specs.declared.call.Call.TheVariants.{Flush};
+ghost use Rattle.session_core.specs.declared.transcript.Reply.TheVariants.{Flushed};
 ghost use Rattle.av1_settings.specs.declared.encoder.EncoderConfig.{EncoderConfig as Settings};
 ghost use Rattle.av1_settings.specs.Checks.{IsValid};
 ghost use Rattle.pass_data.specs.Given.{verdict};
+ghost use Rattle.pass_data.specs.declared.rc_data.RcData.TheVariants.{Frame, Summary};
 ghost use Rattle.pass_data.specs.declared.error.PassDataError.{PassDataError as Refusal};
 ghost use Rattle.ratecontrol.specs.Passes.{IsAnswered, RunsOut, asked, frames_needed, taken_in};
 ghost use Rattle.session_log.specs.Passes.{first_begun, packet_sent};
@@ -22,6 +25,7 @@ use crate::{
     Call, Detector, FrameCoder, MeanScale, PassCall, PassDataError, PassTurn, RcData, Reply,
     SessionFault, Turn,
 };
+use arrayvec::ArrayVec;
 use av1_settings::{EncoderConfig, EncoderStatus, RateControlConfig};
 use coding_base::OutOfMemory;
 use session_log::QTables;
@@ -107,7 +111,7 @@ impl<T: Drop, O: Drop> SessionState<T, O> {
         ensures tables { self.new.rate.tables ≡ self.old.rate.tables }
         ensures kept { OnOk result (IsKept enc.now self.new) }
         ensures stays { (number : ℕ) → result ≡ Err (Coder number)
-            → at_state self.new ≡ at_state self.old }
+            → moment_of self.new ≡ moment_of self.old }
         ensures failed { IfErr result (λ fault.
             (awaits_data enc.now (at_state self.old) call ≡ false)
             × Fails enc.now self.old.rate.tables (passes_at self.old) call (moment_of self.old)
@@ -192,11 +196,7 @@ impl<T: Drop, O: Drop> SessionState<T, O> {
         let done = self.is_done();
         let is_frame = self.rate.gives_frame();
         let bytes = self.rate.take_data(done)?;
-        Some(if is_frame {
-            RcData::Frame(bytes)
-        } else {
-            RcData::Summary(bytes)
-        })
+        Some(pass_data(is_frame, bytes))
     }
 
     /// Gives the second pass the metrics of a frame.
@@ -244,5 +244,16 @@ impl<T: Drop, O: Drop> SessionState<T, O> {
             result ≡ frames_needed (rate_of enc (at_state self.now)) }
     {
         self.rate.frames_needed()
+    }
+}
+
+// A frame's metrics, or a summary.
+fn pass_data(is_frame: bool, bytes: ArrayVec<u8, 68>) -> RcData
+    ensures { result ≡ (if is_frame then Frame bytes else Summary bytes) }
+{
+    if is_frame {
+        RcData::Frame(bytes)
+    } else {
+        RcData::Summary(bytes)
     }
 }

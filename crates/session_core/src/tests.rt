@@ -4,6 +4,7 @@ ghost use Rattle.coding_base.specs.Faults.{HasCause};
 ghost use Rattle.session_core.specs.declared.coder.CoderError.TheVariants.{Failed};
 
 mod contexts;
+mod passes;
 mod rows;
 
 use super::*;

@@ -8,7 +8,7 @@ type Frames = Context<u16, u64, NoDetector, NoScale, SizedCoder>;
 type Inner = ContextInner<u16, u64, NoDetector, NoScale, SizedCoder>;
 
 // A session that hasn't begun; its coder's call number `fails` fails.
-fn context(
+pub(super) fn context(
     alloc: Global,
     enc: EncoderConfig,
     rate_control: RateControlConfig,
@@ -165,7 +165,7 @@ fn frames_are_held_until_their_packets_are_given(rt: HostRuntime) -> Result<(), 
 }
 
 // A summary of one temporal unit, with the bytes that stand before its 32 zeros.
-const SUMMARY: [u8; 36] = [
+pub(super) const SUMMARY: [u8; 36] = [
     0x56, 0x41, 0x32, 0x50, 1, 0, 0, 0, 1, 0, 0, 0, 1, 0, 0, 0, 0, 0, 0, 0, 0, 0, 0, 0, 0, 0, 0, 0,
     0, 0, 0, 0, 0x30, 0x45, 0x54, 0x57,
 ];

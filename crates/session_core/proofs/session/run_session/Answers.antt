@@ -1,7 +1,8 @@
 use Rattle.std.proofs.Common.{◌≡◌, ◌++◌, ◌∷◌, [], Result, Err, inr, ap, sym, subst, ◌∙◌, append_assoc, append-nil, arith}
 use Rattle.std.proofs.lemmas.List.{nil_from_length}
 use Rattle.session_core.specs.Sessions.{IsSessionRun}
-use Rattle.session_core.proofs.CallLoop.{Carried, Stops, carried-opening, carried-step, leads-ready, carried-session, carried-steps, session-schedule, carried-stop}
+use Rattle.session_core.proofs.CallLoop.{Carried, Stops, carried-opening, carried-step, carried-session, carried-steps, session-schedule, carried-stop}
+use Rattle.session_core.proofs.Playing.{leads-ready}
 use Rattle.session_core.proofs.Telling.{later-then}
 use Rattle.session_core.proofs.session.run_session.Given as given
 use Rattle.session_core.proofs.session.run_session.Invariants.{outside}
@@ -11,12 +12,12 @@ pub loop-call-init : goal.loop-call-init
 loop-call-init g c = (
   tt,
   tt,
-  carried-opening c.args.cfg.now.enc c.args.tables.now c.new-turns.result.items c.new-state.result (outside g c.args.coder.now c.args.detector.now c.args.scales.now) c.new-turns.ensures.items c.new-state.ensures.moment c.new-state.ensures.kept c.new-state.ensures.tables,
+  carried-opening c.args.cfg.now.enc c.args.tables.now c.new-turns.result.items c.new-state.result (outside g c.args.coder.now c.args.detector.now c.args.scales.now) c.new-turns.ensures.items c.new-state.ensures.moment c.new-state.ensures.kept c.new-state.ensures.tables c.new-state.ensures.passes,
   c.into_iter-call-iterator.ensures.into_iter_gives.0,
 )
 
 pub turn-requires-clause-ready : goal.turn-requires-clause-ready
-turn-requires-clause-ready g c = leads-ready _ _ _ _ c.in_default.ensures.valid.looks_ahead c.loop-call.invariant.2.leads
+turn-requires-clause-ready g c = leads-ready _ _ _ _ c.in_default.ensures.valid.looks_ahead c.loop-call.invariant.2.playing.leads
 
 pub loop-call-preserved : goal.loop-call-preserved
 loop-call-preserved g c =
@@ -26,13 +27,13 @@ loop-call-preserved g c =
       tt,
       tt,
       carried-step c.args.cfg.now.enc c.args.tables.now c.loop-call.yielded c.loop-call.turns.items c.push.new.self.items c.loop-call.state c.turn.new.self _ _ (outside g c.turn.new.coder c.turn.new.detector c.turn.new.scales) c.in-Some.call c.in-Ok.turn
-          c.in_default.ensures.valid.looks_ahead c.loop-call.invariant.2 c.in-Ok.ensures.step c.in-Ok.ensures.kept c.turn.ensures.tables c.in-Ok.ensures.later
+          c.in_default.ensures.valid.looks_ahead c.loop-call.invariant.2 c.in-Ok.ensures.step c.in-Ok.ensures.passes c.in-Ok.ensures.kept c.turn.ensures.tables c.in-Ok.ensures.later
           c.in_ok-push-in-Ok.ensures.items,
       left,
     )
 
 pub returns-in_err-push-in-Ok-clause-later : goal.returns-in_err-push-in-Ok-clause-later
-returns-in_err-push-in-Ok-clause-later g c = later-then _ _ _ c.loop-call.invariant.2.later c.in-Ok.ensures.later
+returns-in_err-push-in-Ok-clause-later g c = later-then _ _ _ c.loop-call.invariant.2.playing.later c.in-Ok.ensures.later
 
 -- what an error says of the calls
 stop : (g : given.Over) (c : goal.After-drop-state-in-Err-turn-6 g) →
@@ -53,11 +54,14 @@ returns-in-Err-turn-clause-invalid g c = λ v is. absurd ((stop g c).valid v (sa
 pub returns-in-Err-turn-clause-fault : goal.returns-in-Err-turn-clause-fault
 returns-in-Err-turn-clause-fault g c = λ command is. (stop g c).fault command (same _ _ is)
 
+pub returns-in-Err-turn-clause-never : goal.returns-in-Err-turn-clause-never
+returns-in-Err-turn-clause-never g c = λ refusal is. (stop g c).message refusal (same _ _ is)
+
 pub returns-in-Err-turn-clause-complete : goal.returns-in-Err-turn-clause-complete
 returns-in-Err-turn-clause-complete g c = λ valid still. inr (ap Err ((stop g c).complete still))
 
 pub returns-in-Err-turn-clause-later : goal.returns-in-Err-turn-clause-later
-returns-in-Err-turn-clause-later g c = later-then _ _ _ c.loop-call.invariant.2.later c.in-Err-turn.ensures.later
+returns-in-Err-turn-clause-later g c = later-then _ _ _ c.loop-call.invariant.2.playing.later c.in-Err-turn.ensures.later
 
 -- every call was answered
 all_done : (g : given.Over) (c : goal.After-drop-state-6 g) → c.loop-call.yielded ≡ c.args.calls.items
@@ -98,4 +102,4 @@ pub returns-clause-schedules : goal.returns-clause-schedules
 returns-clause-schedules g c = session-schedule c.args.cfg.now.enc c.args.tables.now c.args.calls.items _ _ _ (run g c)
 
 pub returns-clause-later : goal.returns-clause-later
-returns-clause-later g c = c.loop-call.invariant.2.later
+returns-clause-later g c = c.loop-call.invariant.2.playing.later

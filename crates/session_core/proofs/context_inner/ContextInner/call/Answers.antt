@@ -2,36 +2,36 @@ use Rattle.std.proofs.Common.{◌≡◌, true, Some, Ok, Err, refl, ap, sym, ◌
 use Rattle.av1_settings.specs.declared.status.EncoderStatus.TheVariants.{Failure}
 use Rattle.session_core.specs.Contexts.{Session, GivesReply, IsCall}
 use Rattle.session_core.specs.Told.{heard}
-use Rattle.session_core.proofs.Calling.{call-of-failed, call-of-fault, call-of-turn, held-failed, held-ready, held-step, none-of, session-same, session_of}
+use Rattle.session_core.proofs.Calling.{call-of-failed, call-of-fault, call-of-turn, held-failed, held-ready, held-turn, none-of, session-same, session_of}
 use Rattle.session_core.proofs.context_inner.ContextInner.call.Goals as goal
 
-pub turn-turn-requires-clause-ready : goal.turn-turn-requires-clause-ready
-turn-turn-requires-clause-ready g c = held-ready _ _ _ c.self.invariant (none-of _ (sym c.if-is_some.ensures))
+pub ready_turn-turn-requires-clause-ready : goal.ready_turn-turn-requires-clause-ready
+ready_turn-turn-requires-clause-ready g c = held-ready _ _ _ c.self.invariant (none-of _ (sym c.if-is_some.ensures))
 
 pub invariant_of-self : goal.invariant_of-self
 invariant_of-self g c =
-    held-step _ _ _ _ _ _ c.args.call c.in-Ok.turn _ _ c.self.invariant (none-of _ (sym c.if-is_some.ensures)) c.in-Ok.ensures.step c.in-Ok.ensures.kept
+    held-turn _ _ _ _ _ _ c.args.call c.in-Ok.turn _ _ c.self.invariant (none-of _ (sym c.if-is_some.ensures)) c.in-Ok.ensures.turn c.in-Ok.ensures.kept
 
 pub returns-in-Ok : goal.returns-in-Ok
 returns-in-Ok g c =
     let inside = c.self.inside in
     let after : Session g.row.T.Denot g.row.O.Denot g.row.D.Denot g.row.S.Denot g.row.C.Denot =
-    session_of inside.enc c.turn-turn.new.self inside.failure c.turn-turn.new.detector c.turn-turn.new.scales c.turn-turn.new.coder in
+    session_of inside.enc c.ready_turn-turn.new.self inside.failure c.ready_turn-turn.new.detector c.ready_turn-turn.new.scales c.ready_turn-turn.new.coder in
     let Calls : Session g.row.T.Denot g.row.O.Denot g.row.D.Denot g.row.S.Denot g.row.C.Denot → Type 0 = λ before.
     IsCall GivesReply c.args.call before after
     (heard (g.C.FrameCoder.told before.coder) (g.D.Detector.told before.detector) (g.S.MeanScale.told before.scales))
     (heard (g.C.FrameCoder.told after.coder) (g.D.Detector.told after.detector) (g.S.MeanScale.told after.scales)) (Ok c.in-Ok.turn.reply) in
     record {
       call = subst Calls c.self.view_is
-          (call-of-turn inside.enc inside.state c.turn-turn.new.self inside.failure inside.detector c.turn-turn.new.detector inside.scales c.turn-turn.new.scales inside.coder c.turn-turn.new.coder
-          c.args.call c.in-Ok.turn _ _ (none-of _ (sym c.if-is_some.ensures)) c.in-Ok.ensures.step c.turn-turn.ensures.tables c.in-Ok.ensures.refused
-          c.turn-turn.ensures.unused c.turn-turn.ensures.later);
+          (call-of-turn inside.enc inside.state c.ready_turn-turn.new.self inside.failure inside.detector c.ready_turn-turn.new.detector inside.scales c.ready_turn-turn.new.scales inside.coder c.ready_turn-turn.new.coder
+          c.args.call c.in-Ok.turn _ _ (none-of _ (sym c.if-is_some.ensures)) c.in-Ok.ensures.turn c.ready_turn-turn.ensures.tables c.in-Ok.ensures.refused
+          c.ready_turn-turn.ensures.unused c.ready_turn-turn.ensures.later);
       again = λ flush none flushed.
           let was : inside.state.flushed ≡ true = ap (λ (s : Session g.row.T.Denot g.row.O.Denot g.row.D.Denot g.row.S.Denot g.row.C.Denot). s.moment.flushed) c.self.view_is ∙ flushed in
           let same = c.in-Ok.ensures.again flush was in
-          let unused : (c.turn-turn.new.coder ≡ inside.coder) × (c.turn-turn.new.scales ≡ inside.scales) = rw flush at c.turn-turn.ensures.unused in (
+          let unused : (c.ready_turn-turn.new.coder ≡ inside.coder) × (c.ready_turn-turn.new.scales ≡ inside.scales) = rw flush at c.ready_turn-turn.ensures.unused in (
             ap Ok same.0,
-            session-same inside.enc inside.state c.turn-turn.new.self inside.failure inside.detector c.turn-turn.new.detector inside.scales c.turn-turn.new.scales inside.coder c.turn-turn.new.coder
+            session-same inside.enc inside.state c.ready_turn-turn.new.self inside.failure inside.detector c.ready_turn-turn.new.detector inside.scales c.ready_turn-turn.new.scales inside.coder c.ready_turn-turn.new.coder
                 same.2 same.3 unused.1 unused.0 ∙ c.self.view_is,
           );
     }
@@ -40,15 +40,15 @@ pub returns-in-Err-clause-call : goal.returns-in-Err-clause-call
 returns-in-Err-clause-call g c =
     let inside = c.self.inside in
     let after : Session g.row.T.Denot g.row.O.Denot g.row.D.Denot g.row.S.Denot g.row.C.Denot =
-    session_of inside.enc c.turn-turn.new.self (Some c.in-Err.fault) c.turn-turn.new.detector c.turn-turn.new.scales c.turn-turn.new.coder in
+    session_of inside.enc c.ready_turn-turn.new.self (Some c.in-Err.fault) c.ready_turn-turn.new.detector c.ready_turn-turn.new.scales c.ready_turn-turn.new.coder in
     let Calls : Session g.row.T.Denot g.row.O.Denot g.row.D.Denot g.row.S.Denot g.row.C.Denot → Type 0 = λ before.
     IsCall GivesReply c.args.call before after
     (heard (g.C.FrameCoder.told before.coder) (g.D.Detector.told before.detector) (g.S.MeanScale.told before.scales))
     (heard (g.C.FrameCoder.told after.coder) (g.D.Detector.told after.detector) (g.S.MeanScale.told after.scales)) (Err c.status.result) in
     subst Calls c.self.view_is
-    (call-of-fault inside.enc inside.state c.turn-turn.new.self inside.failure inside.detector c.turn-turn.new.detector inside.scales c.turn-turn.new.scales inside.coder c.turn-turn.new.coder
-    c.args.call c.in-Err.fault c.status.result _ _ (none-of _ (sym c.if-is_some.ensures)) c.status.ensures c.in-Err.ensures.failed c.turn-turn.ensures.tables
-    (λ number at. c.turn-turn.ensures.stays number (c.in-Err.is ∙ ap Err at)) c.turn-turn.ensures.unused c.turn-turn.ensures.later)
+    (call-of-fault inside.enc inside.state c.ready_turn-turn.new.self inside.failure inside.detector c.ready_turn-turn.new.detector inside.scales c.ready_turn-turn.new.scales inside.coder c.ready_turn-turn.new.coder
+    c.args.call c.in-Err.fault c.status.result _ _ (none-of _ (sym c.if-is_some.ensures)) c.status.ensures c.in-Err.ensures.failed.0 c.in-Err.ensures.failed.1 c.ready_turn-turn.ensures.tables
+    (λ number at. c.ready_turn-turn.ensures.stays number (c.in-Err.is ∙ ap Err at)) c.ready_turn-turn.ensures.unused c.ready_turn-turn.ensures.later)
 
 pub returns-then-is_some-clause-call : goal.returns-then-is_some-clause-call
 returns-then-is_some-clause-call g c =
@@ -63,4 +63,4 @@ returns-then-is_some-clause-call g c =
 
 pub invariant_of-self-in-Err : goal.invariant_of-self-in-Err
 invariant_of-self-in-Err g c =
-    held-failed c.self.inside.enc c.self.inside.state c.turn-turn.new.self c.self.inside.failure (Some c.in-Err.fault) c.in-Err.fault c.self.invariant refl
+    held-failed c.self.inside.enc c.self.inside.state c.ready_turn-turn.new.self c.self.inside.failure (Some c.in-Err.fault) c.in-Err.fault c.self.invariant refl

@@ -1,12 +1,11 @@
 use Rattle.std.proofs.Common.{◌≡◌, IfOk, refl, sym, ap, ◌∙◌, subst}
 use Rattle.std.proofs.lemmas.Result.{MatchResult-weaker}
-use Rattle.session_log.specs.Passes.{no_passes}
 use Rattle.session_log.specs.Keeps.{Keeps, RateKept}
 use Rattle.session_core.specs.declared.call.Call.{Call}
 use Rattle.session_core.specs.declared.call.Call.TheVariants.{Send, Flush}
 use Rattle.session_core.specs.declared.state.SessionState.{SessionState}
 use Rattle.session_core.specs.declared.transcript.Reply.TheVariants.{Flushed}
-use Rattle.session_core.specs.States.{moment_of}
+use Rattle.session_core.specs.States.{moment_of, passes_at}
 use Rattle.session_core.specs.Steps.{Fails, IsStep}
 use Rattle.session_core.specs.Taken.{packet_of}
 use Rattle.session_core.specs.Told.{IsDetectorLater, heard}
@@ -21,17 +20,17 @@ pub returns-in-Receive-clause-step : goal.returns-in-Receive-clause-step
 returns-in-Receive-clause-step g c =
     let told = g.D.Detector.told c.args.detector.now in
     subst
-    (λ (call : Call g.row.T.Denot g.row.O.Denot). IfOk c.receive.result (λ turn. IsStep c.args.enc.now c.args.self.now.rate.tables call turn (moment_of c.args.self.now) (moment_of c.receive.new.self)
+    (λ (call : Call g.row.T.Denot g.row.O.Denot). IfOk c.receive.result (λ turn. IsStep c.args.enc.now c.args.self.now.rate.tables (passes_at c.args.self.now) call turn (moment_of c.args.self.now) (moment_of c.receive.new.self)
     (heard (g.C.FrameCoder.told c.args.coder.now) told (g.S.MeanScale.told c.args.scales.now)) (heard (g.C.FrameCoder.told c.receive.new.coder) told (g.S.MeanScale.told c.receive.new.scales))))
     (sym c.in-Receive.is)
-    (receive-step c.args.enc.now c.args.self.now.rate.tables c.receive.result (moment_of c.args.self.now) (moment_of c.receive.new.self) _ _ told _ _
+    (receive-step c.args.enc.now c.args.self.now.rate.tables (passes_at c.args.self.now) c.receive.result (moment_of c.args.self.now) (moment_of c.receive.new.self) _ _ told _ _
     c.receive.ensures.turn c.receive.ensures.after c.receive.ensures.same c.receive.ensures.quantised c.receive.ensures.taken c.receive.ensures.counted c.receive.ensures.scaled)
 
 pub returns-in-Receive-clause-failed : goal.returns-in-Receive-clause-failed
 returns-in-Receive-clause-failed g c =
     let told = g.D.Detector.told c.args.detector.now in
     MatchResult-weaker c.receive.result c.receive.ensures.failed (λ turn _. tt)
-    (λ fault fails. subst (λ (call : Call g.row.T.Denot g.row.O.Denot). Fails c.args.enc.now c.args.self.now.rate.tables call (moment_of c.args.self.now)
+    (λ fault fails. subst (λ (call : Call g.row.T.Denot g.row.O.Denot). Fails c.args.enc.now c.args.self.now.rate.tables (passes_at c.args.self.now) call (moment_of c.args.self.now)
     (heard (g.C.FrameCoder.told c.args.coder.now) told (g.S.MeanScale.told c.args.scales.now)) (heard (g.C.FrameCoder.told c.receive.new.coder) told (g.S.MeanScale.told c.receive.new.scales)) fault)
     (sym c.in-Receive.is) (fails told))
 
@@ -42,6 +41,7 @@ pub returns-clause-step : goal.returns-clause-step
 returns-clause-step g c =
     let enc = c.args.enc.now in
     let tables = c.args.self.now.rate.tables in
+    let passes = passes_at c.args.self.now in
     let before = moment_of c.args.self.now in
     let coder = g.C.FrameCoder.told c.args.coder.now in
     let scales = g.S.MeanScale.told c.args.scales.now in
@@ -49,9 +49,9 @@ returns-clause-step g c =
     let turn = c.without_log.result in
     let log = c.without_log.ensures.log in
     let Steps : Call g.row.T.Denot g.row.O.Denot → SessionState g.row.T.Denot g.row.O.Denot → g.row.D.Denot → Type 0 =
-    λ call state detector. IsStep enc tables call turn before (moment_of state) (heard coder (told c.args.detector.now) scales) (heard coder (told detector) scales) in
+    λ call state detector. IsStep enc tables passes call turn before (moment_of state) (heard coder (told c.args.detector.now) scales) (heard coder (told detector) scales) in
     let rated = kept-rated enc c.args.self.now c.requires.kept in
-    let Held : SessionState g.row.T.Denot g.row.O.Denot → Type 0 = λ state. Keeps enc tables no_passes before.log state.rate in
+    let Held : SessionState g.row.T.Denot g.row.O.Denot → Type 0 = λ state. Keeps enc tables passes before.log state.rate in
     elim c.match-call.branch [
       | in-Send+in_ok-reply-in-Send w ↦
           let call : Call g.row.T.Denot g.row.O.Denot = Send w.in-Send.frame w.in-Send.parameters in
@@ -61,22 +61,22 @@ returns-clause-step g c =
           let after : moment_of now.self ≡ after_send enc now.self.decisions.items before (accepted_of w.in-Send.frame.value w.in-Send.parameters) turn.reply =
           facts.after ∙ ap (after_send enc now.self.decisions.items before (accepted_of w.in-Send.frame.value w.in-Send.parameters)) (sym (c.without_log.ensures.reply ∙ w.reply-is)) in
           let is : IsTurn enc (moment_of now.self).decisions before call turn = ((reply, log), subst (Decides enc before) after facts.decides) in
-          let keeps : Held c.match-call.self = subst Held (sym w.self-is) (subst (λ (rate : RateKept). Keeps enc tables no_passes before.log rate) (sym facts.rate) rated.keeps) in
+          let keeps : Held c.match-call.self = subst Held (sym w.self-is) (subst (λ (rate : RateKept). Keeps enc tables passes before.log rate) (sym facts.rate) rated.keeps) in
           subst (λ call. Steps call c.match-call.self c.match-call.detector) (sym w.in-Send.is)
           (subst (λ state. Steps call state c.match-call.detector) (sym w.self-is)
           (subst (λ detector. Steps call now.self detector) (sym w.detector-is)
-          (quiet-step enc tables call turn before (moment_of now.self) coder _ _ scales log (c.without_log.ensures.reservoir enc tables no_passes before.log keeps)
+          (quiet-step enc tables passes call turn before (moment_of now.self) coder _ _ scales log (c.without_log.ensures.reservoir enc tables passes before.log keeps)
           (ap packet_of reply ∙ sent-packet enc before w.in-Send.frame.value) is after facts.asked)))
       | in-Flush+in_ok-reply-in-Flush w ↦
           let now = w.flush.new in
           let facts = w.in_ok-reply-in-Flush.ensures in
           let reply : turn.reply ≡ Flushed = c.without_log.ensures.reply ∙ w.reply-is ∙ facts.reply in
           let is : IsTurn enc (moment_of now.self).decisions before Flush turn = ((reply, log), subst (Decides enc before) facts.after facts.decides) in
-          let keeps : Held c.match-call.self = subst Held (sym w.self-is) (subst (λ (rate : RateKept). Keeps enc tables no_passes before.log rate) (sym facts.rate) rated.keeps) in
+          let keeps : Held c.match-call.self = subst Held (sym w.self-is) (subst (λ (rate : RateKept). Keeps enc tables passes before.log rate) (sym facts.rate) rated.keeps) in
           subst (λ call. Steps call c.match-call.self c.match-call.detector) (sym w.in-Flush.is)
           (subst (λ state. Steps Flush state c.match-call.detector) (sym w.self-is)
           (subst (λ detector. Steps Flush now.self detector) (sym w.detector-is)
-          (quiet-step enc tables Flush turn before (moment_of now.self) coder _ _ scales log (c.without_log.ensures.reservoir enc tables no_passes before.log keeps)
+          (quiet-step enc tables passes Flush turn before (moment_of now.self) coder _ _ scales log (c.without_log.ensures.reservoir enc tables passes before.log keeps)
           (ap packet_of reply) is facts.after facts.asked)))
     ]
 
