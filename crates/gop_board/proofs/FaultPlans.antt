@@ -353,14 +353,14 @@ fault-plan {T} enc tables ahead pictures before after command fit few still fres
     moment = moment_after (job_settings enc) fault.fails.decisions (take fault.fails.done fault.calls) fault.fails.turns
 
     answered : All (λ decision. decision.forced ≡ false → decision.key ≡ false) fault.fails.decisions
-    answered = subst (λ (d : DetectorTold T). AreAnswered d.answers fault.fails.decisions) fresh.detector fault.fails.asked.ahead
+    answered = subst (λ (d : DetectorTold T). AreAnswered d.answers fault.fails.decisions) fresh.detector fault.fails.stopped.asked.ahead
 
     unkeyed : Unkeyed fault.fails.decisions
     unkeyed = unkeyed-run (take fault.fails.done fault.calls) (take fault.fails.done fault.calls) fault.fails.turns fault.fails.decisions
-        (same-take fault.fails.done fault.calls fault.calls (job-calls-same enc pictures fault.calls fault.calls fault.calls_are fault.calls_are)) fault.fails.keys answered
+        (same-take fault.fails.done fault.calls fault.calls (job-calls-same enc pictures fault.calls fault.calls fault.calls_are fault.calls_are)) fault.fails.stopped.keys answered
 
     un : Unkeyed moment.decisions
-    un = subst Unkeyed fault.fails.decided unkeyed
+    un = subst Unkeyed fault.fails.stopped.decided unkeyed
 
     count : sends fault.calls ≡ length pictures
     count = ap sends fault.calls_are.calls_are ∙ sends-job enc fault.calls_are.frames ∙ sym (length-map fault.calls_are.frames (λ frame. frame.value)) ∙ ap length fault.calls_are.pictures_are
@@ -374,7 +374,7 @@ fault-plan {T} enc tables ahead pictures before after command fit few still fres
     )
 
     first : commands_of fault.fails.turns ≡ take command (job_plan enc moment.accepted)
-    first = fault.fails.first ∙ ap (take command) (plan-of enc moment.accepted moment.decisions un)
+    first = fault.fails.stopped.first ∙ ap (take command) (plan-of enc moment.accepted moment.decisions un)
 
     none-late : late fault.calls ≡ 0
     none-late = ap late fault.calls_are.calls_are ∙ late-job enc fault.calls_are.frames
@@ -388,12 +388,12 @@ fault-plan {T} enc tables ahead pictures before after command fit few still fres
         let all : sends (take fault.fails.done fault.calls) ≡ sends fault.calls =
         sends-flushed (job_settings enc) fault.fails.decisions fault.fails.done opening fault.calls fault.fails.turns refl ended none-late in
         let accepted : moment.accepted ≡ 0 + sends (take fault.fails.done fault.calls) =
-        accepted-all (job_settings enc) fault.fails.decisions opening (take fault.fails.done fault.calls) fault.fails.turns fault.fails.answered refl
+        accepted-all (job_settings enc) fault.fails.decisions opening (take fault.fails.done fault.calls) fault.fails.turns fault.fails.stopped.answered refl
         (omega (arith, late-take fault.fails.done fault.calls, none-late)) (fit-take (job_settings enc) fault.fails.done fault.calls all-fit)
         (λ yes-still. omega (arith, still yes-still, all, count)) (omega (arith, all, count, few)) in
         let whole : moment.accepted ≡ length pictures = omega (arith, accepted, all, count) in
         first ∙ ap (λ (n : ℕ). take command (job_plan enc n)) whole
     by_flush false going =
-        let known : moment.commands < length (job_known enc moment.accepted) = next-known (job_settings enc) moment fault.fails.due.due going un in
-        let within : command ≤ length (job_known enc moment.accepted) = omega (arith, known, fault.fails.due.next) in
+        let known : moment.commands < length (job_known enc moment.accepted) = next-known (job_settings enc) moment fault.fails.stopped.due.due going un in
+        let within : command ≤ length (job_known enc moment.accepted) = omega (arith, known, fault.fails.stopped.due.next) in
         first ∙ take-known enc moment.accepted moment.accepted command (omega arith) within ∙ sym (take-known enc moment.accepted (length pictures) command bound within)

@@ -51,5 +51,5 @@ module _ {T : Type 0} (tables : Tables) (pictures : List (Frame T)) (calls : Lis
     calls = calls;
     calls_are = are;
     fails = subst (λ (one : Config). FailsAt (job_settings one.enc) tables calls before after command) same fails;
-    counted = rose-above _ _ none fails.rose;
+    counted = rose-above _ _ none fails.stopped.rose;
   }

@@ -12,6 +12,7 @@ use Rattle.quantizers.specs.Tables.{Tables}
 use Rattle.quantizers.specs.declared.parameters.QuantizerParameters.{QuantizerParameters}
 use Rattle.session_log.specs.declared.entry.LogEntry.{LogEntry}
 use Rattle.session_core.specs.Moments.{Moment, waiting_at}
+use Rattle.session_log.specs.Passes.{Passes, passes_after}
 use Rattle.session_core.specs.Quantisers.{AreSelected, quantisers_at}
 use Rattle.session_core.specs.Taken.{handed_at}
 use Rattle.session_core.specs.Told.{AreNext, Gave, Handed, Told}
@@ -77,23 +78,23 @@ module _ {T : Type 0} (enc : EncoderConfig) (tables : Tables) (next : List (Told
   -- ---- what is coded
 
   -- what was taken is what the entries hand over, and gave their bytes and what was told ahead; they have their quantisers
-  pub record IsCoded (m : Moment T ⊤) (before : List LogEntry) (history : List (Told T)) (log : List LogEntry) (taken : List (Told T)) : Type 0 where
-    pub selected : AreSelected enc tables m before log
+  pub record IsCoded (passes : Passes) (m : Moment T ⊤) (before : List LogEntry) (history : List (Told T)) (log : List LogEntry) (taken : List (Told T)) : Type 0 where
+    pub selected : AreSelected enc tables passes m before log
     pub handed : map (λ one. one.handed) taken ≡ flat_map (handed_at m) log
     pub bytes : map (λ one. one.gave.bytes) taken ≡ map (λ entry. entry.bytes) log
     pub ahead : AreNext next history taken
 
   -- the first entry
-  record IsFirst (m : Moment T ⊤) (before : List LogEntry) (history : List (Told T)) (entry : LogEntry) (log : List LogEntry) (one : Told T) (taken : List (Told T)) : Type 0 where
-    quant : entry.quant ≡ quantisers_at enc tables m before entry
+  record IsFirst (passes : Passes) (m : Moment T ⊤) (before : List LogEntry) (history : List (Told T)) (entry : LogEntry) (log : List LogEntry) (one : Told T) (taken : List (Told T)) : Type 0 where
+    quant : entry.quant ≡ quantisers_at enc tables passes m before entry
     handed : handed_at m entry ≡ one.handed ∷ []
     gave : one.gave ≡ next history one.handed
     bytes : one.gave.bytes ≡ entry.bytes
-    rest : IsCoded m (before ++ entry ∷ []) (history ++ one ∷ []) log taken
+    rest : IsCoded (passes_after enc passes before entry) m (before ++ entry ∷ []) (history ++ one ∷ []) log taken
 
-  first-of : (m : Moment T ⊤) (before : List LogEntry) (history : List (Told T)) (entry : LogEntry) (log : List LogEntry) (one : Told T) (taken : List (Told T)) →
-      IsCoded m before history (entry ∷ log) (one ∷ taken) → IsFirst m before history entry log one taken
-  first-of m before history entry log one taken so = record {
+  first-of : (passes : Passes) (m : Moment T ⊤) (before : List LogEntry) (history : List (Told T)) (entry : LogEntry) (log : List LogEntry) (one : Told T) (taken : List (Told T)) →
+      IsCoded passes m before history (entry ∷ log) (one ∷ taken) → IsFirst passes m before history entry log one taken
+  first-of passes m before history entry log one taken so = record {
     quant = so.selected.0;
     handed = split.0;
     gave = so.ahead.0;
@@ -111,9 +112,9 @@ module _ {T : Type 0} (enc : EncoderConfig) (tables : Tables) (next : List (Told
       split = split-one one.handed (map (λ (one : Told T). one.handed) taken) (handed_at m entry) (flat_map (handed_at m) log) (handed-few m entry)
           (omega (arith, counts, all-few m log)) (so.handed ∙ flat_map-cons (handed_at m) entry log)
 
-  firsts-same : (m : Moment T ⊤) (before : List LogEntry) (history : List (Told T)) (a b : LogEntry) (log other : List LogEntry) (one two : Told T) (taken took : List (Told T)) →
-      IsFirst m before history a log one taken → IsFirst m before history b other two took → mark a ≡ mark b → (a ≡ b) × (one ≡ two)
-  firsts-same m before history a b log other one two taken took this that head = (entries, calls)
+  firsts-same : (passes : Passes) (m : Moment T ⊤) (before : List LogEntry) (history : List (Told T)) (a b : LogEntry) (log other : List LogEntry) (one two : Told T) (taken took : List (Told T)) →
+      IsFirst passes m before history a log one taken → IsFirst passes m before history b other two took → mark a ≡ mark b → (a ≡ b) × (one ≡ two)
+  firsts-same passes m before history a b log other one two taken took this that head = (entries, calls)
     where
       command : a.command ≡ b.command
       command = ap (λ (x : Mark). x.command) head
@@ -125,7 +126,7 @@ module _ {T : Type 0} (enc : EncoderConfig) (tables : Tables) (next : List (Told
       scale = ap (λ (x : Mark). x.mean_scale) head
 
       quant : a.quant ≡ b.quant
-      quant = this.quant ∙ ap₂ (λ (c : Command) (s : ℤ). quantisers_at enc tables m before (entry_with c [] false None s)) command scale ∙ sym that.quant
+      quant = this.quant ∙ ap₂ (λ (c : Command) (s : ℤ). quantisers_at enc tables passes m before (entry_with c [] false None s)) command scale ∙ sym that.quant
 
       handing : handed_at m a ≡ handed_at m b
       handing =
@@ -145,20 +146,20 @@ module _ {T : Type 0} (enc : EncoderConfig) (tables : Tables) (next : List (Told
       entries = entry-same a b command (sym this.bytes ∙ ap (λ (x : Gave T). x.bytes) gave ∙ that.bytes) trial quant scale
 
   -- entries with the same marks are the same
-  pub entries-same : (m : Moment T ⊤) (before : List LogEntry) (history : List (Told T)) (log other : List LogEntry) (taken took : List (Told T)) →
-      map mark log ≡ map mark other → IsCoded m before history log taken → IsCoded m before history other took → (log ≡ other) × (taken ≡ took)
-  entries-same m before history [] [] [] [] marks so too = (refl, refl)
-  entries-same m before history [] [] (one ∷ taken) took marks so too = absurd (no-cons _ _ (sym so.bytes))
-  entries-same m before history [] [] [] (two ∷ took) marks so too = absurd (no-cons _ _ (sym too.bytes))
-  entries-same m before history [] (b ∷ other) taken took marks so too = absurd (no-cons _ _ marks)
-  entries-same m before history (a ∷ log) [] taken took marks so too = absurd (no-cons _ _ (sym marks))
-  entries-same m before history (a ∷ log) (b ∷ other) [] took marks so too = absurd (no-cons _ _ so.bytes)
-  entries-same m before history (a ∷ log) (b ∷ other) (one ∷ taken) [] marks so too = absurd (no-cons _ _ too.bytes)
-  entries-same m before history (a ∷ log) (b ∷ other) (one ∷ taken) (two ∷ took) marks so too =
-      let this = first-of m before history a log one taken so in
-      let that = first-of m before history b other two took too in
-      let same = firsts-same m before history a b log other one two taken took this that (same-head _ _ _ _ marks) in
-      let rest = entries-same m (before ++ a ∷ []) (history ++ one ∷ []) log other taken took (same-tail _ _ _ _ marks) this.rest
-      (subst (λ (x : LogEntry). IsCoded m (before ++ x ∷ []) (history ++ one ∷ []) other took) (sym same.0)
-      (subst (λ (x : Told T). IsCoded m (before ++ b ∷ []) (history ++ x ∷ []) other took) (sym same.1) that.rest)) in
+  pub entries-same : (passes : Passes) (m : Moment T ⊤) (before : List LogEntry) (history : List (Told T)) (log other : List LogEntry) (taken took : List (Told T)) →
+      map mark log ≡ map mark other → IsCoded passes m before history log taken → IsCoded passes m before history other took → (log ≡ other) × (taken ≡ took)
+  entries-same passes m before history [] [] [] [] marks so too = (refl, refl)
+  entries-same passes m before history [] [] (one ∷ taken) took marks so too = absurd (no-cons _ _ (sym so.bytes))
+  entries-same passes m before history [] [] [] (two ∷ took) marks so too = absurd (no-cons _ _ (sym too.bytes))
+  entries-same passes m before history [] (b ∷ other) taken took marks so too = absurd (no-cons _ _ marks)
+  entries-same passes m before history (a ∷ log) [] taken took marks so too = absurd (no-cons _ _ (sym marks))
+  entries-same passes m before history (a ∷ log) (b ∷ other) [] took marks so too = absurd (no-cons _ _ so.bytes)
+  entries-same passes m before history (a ∷ log) (b ∷ other) (one ∷ taken) [] marks so too = absurd (no-cons _ _ too.bytes)
+  entries-same passes m before history (a ∷ log) (b ∷ other) (one ∷ taken) (two ∷ took) marks so too =
+      let this = first-of passes m before history a log one taken so in
+      let that = first-of passes m before history b other two took too in
+      let same = firsts-same passes m before history a b log other one two taken took this that (same-head _ _ _ _ marks) in
+      let rest = entries-same (passes_after enc passes before a) m (before ++ a ∷ []) (history ++ one ∷ []) log other taken took (same-tail _ _ _ _ marks) this.rest
+      (subst (λ (x : LogEntry). IsCoded (passes_after enc passes before x) m (before ++ x ∷ []) (history ++ one ∷ []) other took) (sym same.0)
+      (subst (λ (x : Told T). IsCoded (passes_after enc passes before b) m (before ++ b ∷ []) (history ++ x ∷ []) other took) (sym same.1) that.rest)) in
       (ap₂ (λ (x : LogEntry) (xs : List LogEntry). x ∷ xs) same.0 rest.0, ap₂ (λ (x : Told T) (xs : List (Told T)). x ∷ xs) same.1 rest.1)

@@ -32,10 +32,10 @@ module _ {T : Type 0} (enc : EncoderConfig) (tables : Tables) (ahead : MakerTold
   unkeyed-of : (before after : Heard T) (packets : List (Packet T ⊤)) (others : List (Call T ⊤)) → IsFresh ahead before → (a : AreSessionPackets enc tables pictures before after packets) →
       SameCalls a.calls others → Unkeyed (moment_after (job_settings enc) a.transcript.decisions a.calls a.transcript.turns).decisions
   unkeyed-of before after packets others fresh a same =
-      subst Unkeyed a.run.decided (unkeyed-run a.calls others a.transcript.turns a.transcript.decisions same a.run.keys answered)
+      subst Unkeyed a.run.played.decided (unkeyed-run a.calls others a.transcript.turns a.transcript.decisions same a.run.played.keys answered)
     where
       answered : All (λ decision. decision.forced ≡ false → decision.key ≡ false) a.transcript.decisions
-      answered = subst (λ (d : DetectorTold T). AreAnswered d.answers a.transcript.decisions) fresh.detector a.run.asked.ahead
+      answered = subst (λ (d : DetectorTold T). AreAnswered d.answers a.transcript.decisions) fresh.detector a.run.played.asked.ahead
 
   told-same : (next : List (Told T) → Handed T → Gave T) (at : ℕ → ℤ) (one other : List (Packet T ⊤)) → ahead.gives ≡ Some next → ahead.answers ≡ Some at →
       GavePackets enc tables ahead pictures one → GavePackets enc tables ahead pictures other → map seen one ≡ map seen other

@@ -31,6 +31,7 @@ use Rattle.session_core.specs.Decisions.{decided_count}
 use Rattle.session_core.specs.Moments.{Accepted, Coding, Moment, Waiting}
 use Rattle.session_core.specs.Scales.{AreScaled, clamped, frame_of, frames_of, picture_at, scales_of}
 use Rattle.session_core.specs.Sessions.{packets_of}
+use Rattle.session_log.specs.Passes.{no_passes}
 use Rattle.session_core.specs.Steps.{AreSteps, IsStep}
 use Rattle.session_core.specs.Taken.{packet_of, shown_ones}
 use Rattle.session_core.specs.Told.{AreNext, Gave, Grew, Handed, Heard, Scaled, ScalesTold, Told}
@@ -167,7 +168,7 @@ module _ {T : Type 0} (enc : EncoderConfig) (tables : Tables) (next : List (Told
   -- what a step took
   record IsTook (m : Moment T ⊤) (history : List (Told T)) (turn : Turn T ⊤) (told now : Heard T) : Type 0 where
     taken : List (Told T)
-    coded : IsCoded enc tables next m m.log history turn.log taken
+    coded : IsCoded enc tables next no_passes m m.log history turn.log taken
     tells : Tells (history ++ taken) now
     recs : map (λ packet. option_map (λ rec. rec.value) packet.rec) (packet_of turn.reply) ≡ map (λ one. one.gave.rec) (shown_ones taken)
     stats : map (λ packet. packet.enc_stats) (packet_of turn.reply) ≡ map (λ one. one.gave.stats) (shown_ones taken)
@@ -187,7 +188,7 @@ module _ {T : Type 0} (enc : EncoderConfig) (tables : Tables) (next : List (Told
       (subst (λ (c : Option (List (Told T))). IfSome c (λ calls. IfSome gives (λ next. AreNext next calls taken))) is h)
 
   took-of : (call : Call T ⊤) (turn : Turn T ⊤) (m after : Moment T ⊤) (history : List (Told T)) (told now : Heard T) →
-      IsStep enc tables call turn m after told now → Tells history told → IsTook m history turn told now
+      IsStep enc tables no_passes call turn m after told now → Tells history told → IsTook m history turn told now
   took-of call turn m after history told now step tells = record {
     taken = step.taken.taken;
     coded = record {
@@ -282,7 +283,7 @@ module _ {T : Type 0} (enc : EncoderConfig) (tables : Tables) (next : List (Told
   logs-same : (m : Moment T ⊤) (history : List (Told T)) (turn other : Turn T ⊤) (told now before then : Heard T) →
       (a : IsTook m history turn told now) (b : IsTook m history other before then) → map mark turn.log ≡ map mark other.log →
       (turn.log ≡ other.log) × (a.taken ≡ b.taken)
-  logs-same m history turn other told now before then a b marks = entries-same enc tables next m m.log history turn.log other.log a.taken b.taken marks a.coded b.coded
+  logs-same m history turn other told now before then a b marks = entries-same enc tables next no_passes m m.log history turn.log other.log a.taken b.taken marks a.coded b.coded
 
   -- turns that code nothing, with the same reply
   quiet-same : (m after later : Moment T ⊤) (history : List (Told T)) (turn other : Turn T ⊤) (told now before then : Heard T) →
@@ -361,7 +362,7 @@ module _ {T : Type 0} (enc : EncoderConfig) (tables : Tables) (next : List (Told
   -- any two steps of one call
   step-same : (call copy : Call T ⊤) (m after later : Moment T ⊤) (history : List (Told T)) (turn other : Turn T ⊤) (told now before then : Heard T) → SameCall call copy →
       Tells history told → Tells history before → Unkeyed after.decisions → Unkeyed later.decisions →
-      IsStep enc tables call turn m after told now → IsStep enc tables copy other m later before then → IsSame turn other after later now then
+      IsStep enc tables no_passes call turn m after told now → IsStep enc tables no_passes copy other m later before then → IsSame turn other after later now then
   step-same Receive Receive m after later history turn other told now before then same ahead tells un unkeyed a b =
       by_held (held_back enc m) a.answered b.answered
     where
@@ -410,7 +411,7 @@ module _ {T : Type 0} (enc : EncoderConfig) (tables : Tables) (next : List (Told
   grown m after decides =
       sym (take-append-drop (length m.decisions) after.decisions) ∙ ap (λ (l : List Decision). l ++ drop (length m.decisions) after.decisions) (sym decides.kept)
 
-  step-grows : (call : Call T ⊤) (turn : Turn T ⊤) (m after : Moment T ⊤) (told now : Heard T) → IsStep enc tables call turn m after told now →
+  step-grows : (call : Call T ⊤) (turn : Turn T ⊤) (m after : Moment T ⊤) (told now : Heard T) → IsStep enc tables no_passes call turn m after told now →
       (more : List Decision) × (after.decisions ≡ m.decisions ++ more)
   step-grows Receive turn m after told now step =
       ([], ap (λ (x : Moment T ⊤). x.decisions) step.moment ∙ receive-decisions m turn.log turn.reply ∙ sym (append-nil m.decisions))

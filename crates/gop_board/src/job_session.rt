@@ -47,7 +47,7 @@ pub fn run_job<T: Pixel, M: MakeSession<T>>(
         Ok(packets) => JobResult::Packets(packets),
         Err(SessionError::CoderFault { command }) => JobResult::Fault { command, coder },
         Err(SessionError::OutOfMemory) => JobResult::OutOfMemory,
-        Err(SessionError::Invalid(_)) => unreachable!(),
+        Err(SessionError::Invalid(_) | SessionError::PassData(_)) => unreachable!(),
     }
 }
 

@@ -38,10 +38,6 @@ module _ {T O D S C : Type 0} (enc : EncoderConfig) (state after : SessionState 
       (others : after ≡ record state { rate = after.rate }) (tables : after.rate.tables ≡ state.rate.tables)
       (counted : MatchResult answer (λ count. (result ≡ Ok count) × (final ≡ session_of enc after failure d s c))
       (λ refusal. (result ≡ Err (status_of (fault_of refusal))) × (final ≡ record (session_of enc after failure d s c) { failure = Some (fault_of refusal) }))) where
-    rate : Rate
-    unfolding rate
-    rate = rate_of enc (at_state state)
-
     moments : moment_of after ≡ moment_of state
     moments = ap moment_of others
 

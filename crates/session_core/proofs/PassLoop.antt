@@ -1,5 +1,5 @@
 -- What the loop over the calls of a session in two passes keeps, and what it comes to.
-use Rattle.std.proofs.Common.{◌≡◌, ℕ, suc, ◌≤◌, Bool, true, false, cond, MatchBool, MatchOption, List, [], ◌∷◌, ◌++◌, map, length, take, drop, Option, Some, None, refl, sym, ap, ap₂, ◌∙◌, subst, subst₂, append-nil, append_assoc, arith}
+use Rattle.std.proofs.Common.{◌≡◌, ◌⊎◌, inl, inr, ℕ, suc, ◌≤◌, Bool, true, false, ◌&&◌, cond, MatchBool, MatchOption, List, [], ◌∷◌, ◌++◌, map, length, take, drop, Option, Some, None, refl, sym, ap, ap₂, ◌∙◌, subst, subst₂, append-nil, append_assoc, arith}
 use Rattle.std.specs.List.{slice_get}
 use Rattle.std.proofs.Math.Seq.{take-append_seam}
 use Rattle.std.proofs.lemmas.List.{map-append}
@@ -99,15 +99,12 @@ answered-push : {T O : Type 0} (done : List (PassCall T O)) (turns : List (PassT
 answered-push [] [] call turn same = refl
 answered-push [] (t ∷ turns) call turn same = absurd (omega (arith, same))
 answered-push (c ∷ done) [] call turn same = absurd (omega (arith, same))
-answered-push {T} {O} (Plain c ∷ done) (Answer t ∷ turns) call turn same = by_ready (is_not_ready t.reply)
+answered-push {T} {O} (Plain c ∷ done) (Answer t ∷ turns) call turn same = by_ready (answered-push done turns call turn (omega (arith, same))) (is_not_ready t.reply)
   where
-    rest : answered_in (done ++ call ∷ []) (turns ++ turn ∷ []) ≡ answered_in done turns ++ answered_in (call ∷ []) (turn ∷ [])
-    rest = answered-push done turns call turn (omega (arith, same))
-
-    by_ready : (b : Bool) → cond b (answered_in (done ++ call ∷ []) (turns ++ turn ∷ [])) ((c, t) ∷ answered_in (done ++ call ∷ []) (turns ++ turn ∷ []))
+    by_ready : answered_in (done ++ call ∷ []) (turns ++ turn ∷ []) ≡ answered_in done turns ++ answered_in (call ∷ []) (turn ∷ []) → (b : Bool) → cond b (answered_in (done ++ call ∷ []) (turns ++ turn ∷ [])) ((c, t) ∷ answered_in (done ++ call ∷ []) (turns ++ turn ∷ []))
         ≡ cond b (answered_in done turns) ((c, t) ∷ answered_in done turns) ++ answered_in (call ∷ []) (turn ∷ [])
-    by_ready true = rest
-    by_ready false = ap (λ (l : List (Call T O × Turn T O)). (c, t) ∷ l) rest
+    by_ready rest true = rest
+    by_ready rest false = ap (λ (l : List (Call T O × Turn T O)). (c, t) ∷ l) rest
 answered-push (Plain c ∷ done) (Taken m ∷ turns) call turn same = answered-push done turns call turn (omega (arith, same))
 answered-push (Plain c ∷ done) (Given ∷ turns) call turn same = answered-push done turns call turn (omega (arith, same))
 answered-push (Take ∷ done) (t ∷ turns) call turn same = answered-push done turns call turn (omega (arith, same))
@@ -298,7 +295,7 @@ pub record PassStops {T O : Type 0} (enc : EncoderConfig) (tables : Tables) (con
   pub valid : (v : InvalidConfig) → error ≡ Invalid v → ⊥
   pub fault : (command : ℕ) → error ≡ CoderFault command → PassFailsAt enc tables control calls before after command
   pub message : (refusal : PassDataError) → error ≡ RefusedData refusal → IsRefusedAt enc tables control calls before after refusal
-  pub complete : ¬ Rose before.coder.faults after.coder.faults → ((refusal : PassDataError) → ¬ IsRefusedAt enc tables control calls before after refusal) → error ≡ NoMemory
+  pub complete : ¬ Rose before.coder.faults after.coder.faults → (error ≡ NoMemory) ⊎ ((refusal : PassDataError) × (error ≡ RefusedData refusal))
 
 module _ {T O : Type 0} (enc : EncoderConfig) (tables : Tables) (control : RateControlConfig) (done rest calls : List (PassCall T O)) (turns : List (PassTurn T O)) (state : SessionState T O)
     (before now then : Heard T) (call : PassCall T O) (carried : PassCarried enc tables control done turns state before now) (joined : done ++ call ∷ rest ≡ calls) where
@@ -315,7 +312,7 @@ module _ {T O : Type 0} (enc : EncoderConfig) (tables : Tables) (control : RateC
       decisions = state.decisions.items
 
       by_call : (c : PassCall T O) → slice_get calls (length done) ≡ Some c → FailsPass enc tables c (at_state state) now then (Coder number) → PassFailsAt enc tables control calls before then number
-      by_call (Plain c) here (awake, receives, fault) = record {
+      by_call (Plain c) here (awake, (receives, fault)) = record {
         done = length done;
         turns = turns;
         decisions = decisions;
@@ -396,7 +393,7 @@ pass-stop enc tables control done rest calls turns state before now then call Ou
   valid = λ v is. cc;
   fault = λ command is. absurd (cc);
   message = λ refusal is. absurd (cc);
-  complete = λ still accepted. refl;
+  complete = λ still. inl refl;
 }
 pass-stop enc tables control done rest calls turns state before now then call (Coder number) carried joined fails =
     let failed = pass-fault enc tables control done rest calls turns state before now then call carried joined number
@@ -405,7 +402,7 @@ pass-stop enc tables control done rest calls turns state before now then call (C
       valid = λ v is. cc;
       fault = λ command is. let e : number ≡ command = cc in subst (λ (n : ℕ). PassFailsAt enc tables control calls before then n) e failed;
       message = λ refusal is. absurd (cc);
-      complete = λ still accepted. absurd (still failed.stopped.rose);
+      complete = λ still. absurd (still failed.stopped.rose);
     }
 pass-stop enc tables control done rest calls turns state before now then call (PassData refusal) carried joined fails =
     let refused = pass-refused enc tables control done rest calls turns state before now then call carried joined refusal
@@ -414,5 +411,5 @@ pass-stop enc tables control done rest calls turns state before now then call (P
       valid = λ v is. cc;
       fault = λ command is. absurd (cc);
       message = λ other is. let e : refusal ≡ other = cc in subst (λ (r : PassDataError). IsRefusedAt enc tables control calls before then r) e refused;
-      complete = λ still accepted. absurd (accepted refusal refused);
+      complete = λ still. inr (refusal, refl);
     }

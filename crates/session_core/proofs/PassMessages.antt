@@ -26,12 +26,15 @@ module _ (done : Bool) (rate : Rate) where
   none-taken facts = by_frame (gives_frame rate) refl
     where
       by_summary : (b : Bool) → gives_summary done rate ≡ b → MatchBool b (IsSummaryData None rate) (◌≡◌ {A = Option RcData} None None)
-      by_summary true e = facts.summary (subst IsTrue (sym e) tt)
+      by_summary true e = facts.summary e
       by_summary false e = refl
 
       by_frame : (b : Bool) → gives_frame rate ≡ b → ByFrame None b
-      by_frame true e = subst (λ (o : Option RCFrameMetrics). MatchOption o (◌≡◌ {A = Option RcData} None None) (IsFrameData None)) (sym (facts.frame (subst IsTrue (sym e) tt))) refl
+      by_frame true e = subst (λ (o : Option RCFrameMetrics). MatchOption o (◌≡◌ {A = Option RcData} None None) (IsFrameData None)) (sym (facts.frame e)) refl
       by_frame false e = by_summary (gives_summary done rate) refl
+
+  some-is-some : (bytes : ArrayVec ℕ) → IsNone (Some bytes) → ⊥
+  some-is-some bytes is = cc
 
   pub some-taken : (is_frame : Bool) (bytes : ArrayVec ℕ) → is_frame ≡ gives_frame rate → IsTakenOut (Some bytes) →
       IsPassData done rate (Some (cond is_frame (Frame bytes) (Summary bytes)))
@@ -42,9 +45,9 @@ module _ (done : Bool) (rate : Rate) where
       is_metric (Some m) is = is
 
       by_summary : (b : Bool) → gives_summary done rate ≡ b → gives_frame rate ≡ false → MatchBool b (IsSummaryData (Some (Summary bytes)) rate) (Some (Summary bytes) ≡ None)
-      by_summary true e off = facts.summary (subst IsTrue (sym e) tt)
-      by_summary false e off = absurd (facts.nothing off e)
+      by_summary true e off = facts.summary e
+      by_summary false e off = absurd (some-is-some bytes (facts.nothing off e))
 
       by_frame : (b : Bool) → gives_frame rate ≡ b → ByFrame (Some (cond b (Frame bytes) (Summary bytes))) b
-      by_frame true e = is_metric (frame_emitted rate) (facts.frame (subst IsTrue (sym e) tt))
+      by_frame true e = is_metric (frame_emitted rate) (facts.frame e)
       by_frame false e = by_summary (gives_summary done rate) refl e

@@ -63,11 +63,8 @@ pub fn run_pass_session<T: Pixel, O: Drop, D: Detector<T>, S: MeanScale<T>, C: F
         (heard (C.told coder.new) (D.told detector.new) (S.told scales.new)) refusal }
     ensures complete { passes_refusal T.BITS levels.now cfg.now ≡ None
         → ¬ Rose (C.told coder.old).faults (C.told coder.new).faults
-        → ((refusal : Refusal)
-        → ¬ IsRefusedAt cfg.now.enc tables.now cfg.now.rate_control calls.items
-        (heard (C.told coder.old) (D.told detector.old) (S.told scales.old))
-        (heard (C.told coder.new) (D.told detector.new) (S.told scales.new)) refusal)
-        → IsOk result ⊎ (result ≡ Err SessionError.OutOfMemory) }
+        → IsOk result ⊎ (result ≡ Err SessionError.OutOfMemory)
+        ⊎ ((refusal : Refusal) × (result ≡ Err (PassData refusal))) }
 
     // What those outside tell goes on; none of them is called where the session doesn't begin.
     ensures later { IsLater (heard (C.told coder.old) (D.told detector.old) (S.told scales.old))
@@ -85,9 +82,13 @@ pub fn run_pass_session<T: Pixel, O: Drop, D: Detector<T>, S: MeanScale<T>, C: F
     let mut state = state;
     let mut turns = Vec::new(alloc);
     for call in calls {
-        match state.pass_turn(alloc, &cfg.enc, detector, scales, coder, call) {
-            Ok(turn) => turns.push(turn)?,
+        let turn = match state.pass_turn(alloc, &cfg.enc, detector, scales, coder, call) {
+            Ok(turn) => turn,
             Err(fault) => return Err(SessionError::from(fault)),
+        };
+        match turns.push(turn) {
+            Ok(()) => {}
+            Err(_) => return Err(SessionError::OutOfMemory),
         }
     }
     Ok(PassTranscript {

@@ -124,7 +124,7 @@ some_faults (fault ∷ faults) count reached = λ e. cc
 
 stopped_status : (heard : Heard ℕ) (script : Result Script ℕ) (command : ℕ) → IsStopped heard command script →
     (status_for_script script ≡ 0) × NamesFault script
-stopped_status heard (Ok script) command e = (valid_status script e.valid, some_faults script.faults _ e.fails.reached)
+stopped_status heard (Ok script) command e = (valid_status script e.valid, some_faults script.faults _ e.fails.stopped.reached)
 stopped_status heard (Err line) command e = absurd e
 
 module _ (sink : Span) where

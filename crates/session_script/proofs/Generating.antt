@@ -51,5 +51,5 @@ module _ (heard : Heard ℕ) (script : Script) (seed : ℕ) (is : script ≡ gen
   seed_outcome (BadLine line) h = cc
   seed_outcome (RefusedPassData number) h = no_why script.summary script refl no_summary h.1
   seed_outcome (Refused number) h = no_refusal script script.summary h.0 number no_summary valid h.1 h.2
-  seed_outcome (CoderFault command) h = some_faults script.faults _ h.fails.reached no_faults
+  seed_outcome (CoderFault command) h = some_faults script.faults _ h.fails.stopped.reached no_faults
   seed_outcome outcome h = h
