@@ -1,25 +1,23 @@
 -- How the passes of a session begin.
-use Rattle.std.proofs.Common.{◌≡◌, Bool, true, false, [], Option, Some, None, refl, sym, ap, ap₂, ◌∙◌, subst}
+use Rattle.std.proofs.Common.{◌≡◌, Bool, true, false, cond, int_lt, pos, List, [], Option, Some, None, refl, sym, ap, ap₂, ◌∙◌, subst}
 use Rattle.av1_settings.specs.declared.encoder.EncoderConfig.{EncoderConfig}
 use Rattle.av1_settings.specs.declared.rate_control.RateControlConfig.{RateControlConfig}
 use Rattle.pass_stats.specs.declared.summary.RCSummary.{RCSummary}
 use Rattle.quantizers.specs.Tables.{Tables}
 use Rattle.session_log.specs.Keeps.{Keeps, RateKept}
-use Rattle.session_log.specs.Passes.{Passes, first_begun, no_passes, second_begun}
+use Rattle.rate_model.specs.Measure.{Entry}
+use Rattle.ratecontrol.specs.Kept.{kept, with_log}
+use Rattle.ratecontrol.specs.Rate.{Rate}
+use Rattle.ratecontrol.specs.Start.{start}
+use Rattle.session_log.specs.Passes.{Passes, first_begun, no_passes, rate_at, second_begun, started}
 use Rattle.session_core.specs.declared.state.SessionState.{SessionState}
 use Rattle.session_core.specs.Moments.{opening}
+use Rattle.session_core.specs.PassStates.{IsBegun}
 use Rattle.session_core.specs.PassTurns.{first_of, passes_begun}
 use Rattle.session_core.specs.Quantisers.{gop_start_at, guess_at}
 use Rattle.session_core.specs.States.{moment_of, passes_at, IsKept}
 use Rattle.session_core.proofs.Passing.{passes-are}
 use Rattle.session_core.proofs.Scheduling.{keeps-opening, kept-begun}
-
--- a session that hasn't begun, with these passes
-pub record IsBegun {T O : Type 0} (enc : EncoderConfig) (tables : Tables) (passes : Passes) (state : SessionState T O) : Type 0 where
-  pub opens : moment_of state ≡ opening
-  pub kept : IsKept enc state
-  pub tables_are : state.rate.tables ≡ tables
-  pub passes_are : passes_at state ≡ passes
 
 pub begun-first : {T O : Type 0} (enc : EncoderConfig) (tables : Tables) (emits : Bool) (state after : SessionState T O) → IsBegun enc tables no_passes state → emits ≡ true →
     after ≡ record state { rate = after.rate } → IsKept enc after → after.rate.tables ≡ state.rate.tables →
@@ -38,6 +36,23 @@ begun-first {T} {O} enc tables emits state after begun on others kept same first
 pub begun-none : {T O : Type 0} (enc : EncoderConfig) (tables : Tables) (emits : Bool) (state : SessionState T O) → IsBegun enc tables no_passes state → emits ≡ false →
     IsBegun enc tables (first_of enc tables emits) state
 begun-none {T} {O} enc tables emits state begun off = subst (λ (b : Bool). IsBegun enc tables (first_of enc tables b) state) (sym off) begun
+
+-- the delay of the reservoir is the settings'
+kept-delay : (begin : Rate) (entries : List Entry) → (kept begin entries).set_delay ≡ begin.set_delay
+unfolding kept
+kept-delay begin entries = elim (int_lt (pos 0) begin.bitrate) as (λ b. (cond b (with_log begin entries) begin).set_delay ≡ begin.set_delay) [ true ↦ refl | false ↦ refl ]
+
+delay-of : (enc : EncoderConfig) (tables : Tables) (emits : Bool) → (rate_at enc (first_of enc tables emits) []).set_delay ≡ enc.reservoir_frame_delay
+unfolding start
+delay-of enc tables true = kept-delay (started enc (first_of enc tables true)) []
+delay-of enc tables false = kept-delay (started enc (first_of enc tables false)) []
+
+pub begun-delay : {T O : Type 0} (enc : EncoderConfig) (tables : Tables) (emits : Bool) (state : SessionState T O) → IsBegun enc tables (first_of enc tables emits) state →
+    state.rate.state.set_delay ≡ enc.reservoir_frame_delay
+begun-delay enc tables emits state begun =
+    ap (λ (r : Rate). r.set_delay) (keeps-opening enc state begun.kept begun.opens).state
+    ∙ ap (λ (p : Passes). (rate_at enc p []).set_delay) begun.passes_are
+    ∙ delay-of enc tables emits
 
 no-header : (enc : EncoderConfig) (tables : Tables) (emits : Bool) → (first_of enc tables emits).given.header ≡ None
 no-header enc tables true = refl

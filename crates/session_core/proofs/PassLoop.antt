@@ -34,7 +34,7 @@ use Rattle.session_core.specs.declared.transcript.Turn.{Turn}
 use Rattle.session_core.specs.Answers.{IsStopped, error_of}
 use Rattle.session_core.specs.Moments.{Moment, is_complete}
 use Rattle.session_core.specs.PassSessions.{IsGiving, IsPassPlayed, IsPassSessionRun, IsRefusedAt, PassFailsAt}
-use Rattle.session_core.specs.PassStates.{FailsPass, IsPassCall, IsPassStep, at_state}
+use Rattle.session_core.specs.PassStates.{ArePassSteps, FailsPass, IsPassCall, IsPassStep, at_state}
 use Rattle.session_core.specs.PassTurns.{ArePassTurns, IsGoingOn, IsPassTurn, IsWaiting, PassMoment, after_answer, after_pass_turn, answered_in, awaits_data, calls_answered, is_not_ready, pass_moment_after, pass_opening, turns_answered}
 use Rattle.session_core.specs.Quantisers.{AreSelected, passes_behind}
 use Rattle.session_core.specs.States.{moment_of, passes_at, IsKept}
@@ -143,6 +143,7 @@ module _ {T O : Type 0} (enc : EncoderConfig) (tables : Tables) (whole more : Li
 pub record PassCarried {T O : Type 0} (enc : EncoderConfig) (tables : Tables) (control : RateControlConfig) (done : List (PassCall T O)) (turns : List (PassTurn T O)) (state : SessionState T O) (before now : Heard T) : Type 0 where
   pub are : ArePassTurns enc tables control state.decisions.items done turns
   pub leads : at_state state ≡ pass_moment_after enc tables control state.decisions.items done turns
+  pub steps : ArePassSteps enc tables done turns (pass_opening enc tables control) (at_state state) before now
   pub playing : Playing enc (calls_answered done turns) (turns_answered done turns) (moment_of state) before now
   pub kept : IsKept enc state
   pub tables_are : state.rate.tables ≡ tables
@@ -153,14 +154,27 @@ pass-opening {T} {O} enc tables control turns state heard none opened kept same 
     subst (λ (t : List (PassTurn T O)). PassCarried {T = T} {O = O} enc tables control [] t state heard heard) (sym none) (record {
       are = tt;
       leads = opened;
+      steps = (opened, refl);
       playing = playing-opening enc (moment_of state) heard (ap (λ (at : PassMoment T O). at.moment) opened);
       kept = kept;
       tables_are = same;
     })
 
+-- one more step
+pass-steps-push : {T O : Type 0} (enc : EncoderConfig) (tables : Tables) (done : List (PassCall T O)) (turns : List (PassTurn T O)) (call : PassCall T O) (turn : PassTurn T O)
+    (before middle after : PassMoment T O) (told now then : Heard T) → ArePassSteps enc tables done turns before middle told now → IsPassCall enc tables call turn middle after now then →
+    ArePassSteps enc tables (done ++ call ∷ []) (turns ++ turn ∷ []) before after told then
+pass-steps-push {T} {O} enc tables [] [] call turn before middle after told now then (same, silent) step =
+    (after, then, subst₂ (λ (m : PassMoment T O) (h : Heard T). IsPassCall enc tables call turn m after h then) same silent step, (refl, refl))
+pass-steps-push enc tables [] (other ∷ turns) call turn before middle after told now then steps step = absurd steps
+pass-steps-push enc tables (first ∷ done) [] call turn before middle after told now then steps step = absurd steps
+pass-steps-push enc tables (first ∷ done) (other ∷ turns) call turn before middle after told now then (next, heard, one, rest) step =
+    (next, heard, one, pass-steps-push enc tables done turns call turn next middle after heard now then rest step)
+
 -- one call more, of which a step of the machine is known by decisions that take in those so far
 module _ {T O : Type 0} (enc : EncoderConfig) (tables : Tables) (control : RateControlConfig) (done : List (PassCall T O)) (turns : List (PassTurn T O)) (state after : SessionState T O)
-    (before now then : Heard T) (call : PassCall T O) (turn : PassTurn T O) (carried : PassCarried enc tables control done turns state before now) where
+    (before now then : Heard T) (call : PassCall T O) (turn : PassTurn T O) (carried : PassCarried enc tables control done turns state before now)
+    (step : IsPassCall enc tables call turn (at_state state) (at_state after) now then) where
   same-length : length turns ≡ length done
   same-length = runs-length (IsPassTurn enc tables state.decisions.items) (after_pass_turn enc state.decisions.items) (pass_opening enc tables control) done turns carried.are
 
@@ -179,6 +193,7 @@ module _ {T O : Type 0} (enc : EncoderConfig) (tables : Tables) (control : RateC
         (subst (λ (at : PassMoment T O). IsPassTurn enc tables whole at call turn) here is);
     leads = leads ∙ ap (λ (at : PassMoment T O). after_pass_turn enc whole at call turn) here
         ∙ sym (after-push (IsPassTurn enc tables whole) (after_pass_turn enc whole) (pass_opening enc tables control) done turns call turn wide.0);
+    steps = pass-steps-push enc tables done turns call turn (pass_opening enc tables control) (at_state state) (at_state after) before now then carried.steps step;
     playing = subst (λ (l : List (Call T O × Turn T O)). Plays l (moment_of after) then) (sym pushed) plays;
     kept = kept;
     tables_are = stays ∙ carried.tables_are;
@@ -228,18 +243,24 @@ pass-step {T} {O} enc tables control done turns all state after before now then 
         PassCarried enc tables control (done ++ call ∷ []) (turns ++ turn ∷ []) after before then
     by_call (Plain c) (Answer t) is = by_wait (awaits_data enc (at_state state) c) refl is
       where
+        whole : {waits : Bool} → awaits_data enc (at_state state) c ≡ waits →
+            MatchBool waits (IsWaiting enc (at_state state) t × (at_state after ≡ at_state state) × (then ≡ now)) (IsPassStep enc tables c t (at_state state) (at_state after) now then) →
+            IsPassCall enc tables (Plain c) (Answer t) (at_state state) (at_state after) now then
+        whole {waits} e one = subst (λ (b : Bool). MatchBool b (IsWaiting enc (at_state state) t × (at_state after ≡ at_state state) × (then ≡ now))
+            (IsPassStep enc tables c t (at_state state) (at_state after) now then)) (sym e) one
+
         by_wait : (waits : Bool) → awaits_data enc (at_state state) c ≡ waits →
             MatchBool waits (IsWaiting enc (at_state state) t × (at_state after ≡ at_state state) × (then ≡ now)) (IsPassStep enc tables c t (at_state state) (at_state after) now then) →
             PassCarried enc tables control (done ++ Plain c ∷ []) (turns ++ Answer t ∷ []) after before then
         by_wait true waits (waiting, same, silent) =
-            stays-put enc tables control done turns state after before now then (Plain c) (Answer t) carried
+            stays-put enc tables control done turns state after before now then (Plain c) (Answer t) carried (whole waits (waiting, same, silent))
             (ap (λ (reply : Reply T O). cond (is_not_ready reply) [] ((c, t) ∷ [])) waiting.replies.0)
             (moment_same same) (sym silent)
             (subst (λ (b : Bool). MatchBool b (IsWaiting enc (at_state state) t) (IsGoingOn enc tables state.decisions.items (at_state state) c t)) (sym waits) waiting)
             (same ∙ sym (ap (λ (b : Bool). cond b (at_state state) (after_answer enc state.decisions.items (at_state state) c t)) waits))
             kept stays
         by_wait false awake is =
-            moves enc tables control done turns state after before now then (Plain c) (Answer t) carried
+            moves enc tables control done turns state after before now then (Plain c) (Answer t) carried (whole awake is)
             (drop (length state.decisions.items) after.decisions.items)
             (grown enc (calls_answered done turns) (turns_answered done turns) (moment_of state) (moment_of after) c t carried.playing.leads is.step.answered is.step.moment)
             (subst (λ (b : Bool). MatchBool b (IsWaiting enc (at_state state) t) (IsGoingOn enc tables after.decisions.items (at_state state) c t)) (sym awake)
@@ -258,13 +279,13 @@ pass-step {T} {O} enc tables control done turns all state after before now then 
     by_call (Plain c) Given is = absurd is
     by_call Take (Answer t) is = absurd is
     by_call Take (Taken message) (data_is, leads, silent) =
-        stays-put enc tables control done turns state after before now then Take (Taken message) carried refl
+        stays-put enc tables control done turns state after before now then Take (Taken message) carried (data_is, leads, silent) refl
         (ap (λ (at : PassMoment T O). at.moment) leads) (sym silent) data_is leads kept stays
     by_call Take Given is = absurd is
     by_call (Give message) (Answer t) is = absurd is
     by_call (Give message) (Taken other) is = absurd is
     by_call (Give message) Given (taken, leads, silent) =
-        stays-put enc tables control done turns state after before now then (Give message) Given carried refl
+        stays-put enc tables control done turns state after before now then (Give message) Given carried (taken, leads, silent) refl
         (ap (λ (at : PassMoment T O). at.moment) leads) (sym silent) taken leads kept stays
 
 -- ---- the end
@@ -282,6 +303,13 @@ pass-session {T} {O} enc tables control calls transcript state before now carrie
         IsPassPlayed enc calls turns decisions before now
     played-by enc calls turns decisions state before now playing same =
         playing-played enc (calls_answered calls turns) (record { turns = turns_answered calls turns; decisions = decisions }) (moment_of state) before now playing same
+
+pub pass-steps : {T O : Type 0} (enc : EncoderConfig) (tables : Tables) (control : RateControlConfig) (calls : List (PassCall T O)) (transcript : PassTranscript T O) (state : SessionState T O) (before now : Heard T) →
+    PassCarried enc tables control calls transcript.turns state before now → transcript.decisions ≡ state.decisions.items →
+    ArePassSteps enc tables calls transcript.turns (pass_opening enc tables control) (pass_moment_after enc tables control transcript.decisions calls transcript.turns) before now
+pass-steps {T} {O} enc tables control calls transcript state before now carried same =
+    subst (λ (at : PassMoment T O). ArePassSteps enc tables calls transcript.turns (pass_opening enc tables control) at before now)
+    (carried.leads ∙ ap (λ (d : List Decision). pass_moment_after enc tables control d calls transcript.turns) (sym same)) carried.steps
 
 -- ---- a call that fails
 

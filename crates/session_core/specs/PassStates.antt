@@ -1,9 +1,9 @@
 -- What one call of a session in two passes does to its state, and how it fails.
-use Rattle.std.specs.Prelude.{◌≡◌, ℕ, false, MatchBool, List, None, Some}
+use Rattle.std.specs.Prelude.{◌≡◌, ℕ, false, MatchBool, List, [], ◌∷◌, None, Some}
 use Rattle.av1_settings.specs.declared.encoder.EncoderConfig.{EncoderConfig}
 use Rattle.pass_data.specs.declared.error.PassDataError.{PassDataError}
 use Rattle.quantizers.specs.Tables.{Tables}
-use Rattle.session_log.specs.Passes.{packet_sent}
+use Rattle.session_log.specs.Passes.{Passes, packet_sent}
 use Rattle.session_core.specs.declared.call.Call.{Call}
 use Rattle.session_core.specs.declared.fault.SessionFault.{SessionFault}
 use Rattle.session_core.specs.declared.fault.SessionFault.TheVariants.{PassData}
@@ -13,14 +13,22 @@ use Rattle.session_core.specs.declared.pass_transcript.PassTurn.{PassTurn}
 use Rattle.session_core.specs.declared.pass_transcript.PassTurn.TheVariants.{Turn as Answer, Taken, Given}
 use Rattle.session_core.specs.declared.state.SessionState.{SessionState}
 use Rattle.session_core.specs.declared.transcript.Turn.{Turn}
+use Rattle.session_core.specs.Moments.{opening}
 use Rattle.session_core.specs.PassTurns.{IsPassData, IsWaiting, PassMoment, after_given, after_taken, awaits_data, is_done, rate_of}
 use Rattle.session_core.specs.Quantisers.{passes_behind}
-use Rattle.session_core.specs.States.{moment_of, passes_at}
+use Rattle.session_core.specs.States.{moment_of, passes_at, IsKept}
 use Rattle.session_core.specs.Steps.{Fails, IsStep}
 use Rattle.session_core.specs.Told.{Heard}
 
 abbrev pub at_state : {T O : Type 0} → SessionState T O → PassMoment T O
 at_state state = record { moment = moment_of state; passes = passes_at state }
+
+-- a session that hasn't begun, with these passes
+pub record IsBegun {T O : Type 0} (enc : EncoderConfig) (tables : Tables) (passes : Passes) (state : SessionState T O) : Type 0 where
+  pub opens : moment_of state ≡ opening
+  pub kept : IsKept enc state
+  pub tables_are : state.rate.tables ≡ tables
+  pub passes_are : passes_at state ≡ passes
 
 -- a call that didn't wait: a step by what the passes hand on, which moves on with what was coded
 pub record IsPassStep {T O : Type 0} (enc : EncoderConfig) (tables : Tables) (call : Call T O) (turn : Turn T O) (before after : PassMoment T O) (told now : Heard T) : Type 0 where
@@ -43,6 +51,15 @@ IsPassCall enc tables (Give message) Given before after told now =
     ((packet_sent enc before.passes before.moment.log message.items).refused ≡ None)
     × (after ≡ after_given enc before message.items) × (now ≡ told)
 IsPassCall enc tables call turn before after told now = ⊥
+
+-- calls one after another, each from the moment that the one before leaves, and of what was told by then
+abbrev pub ArePassSteps : {T O : Type 0} → EncoderConfig → Tables → List (PassCall T O) → List (PassTurn T O) →
+    PassMoment T O → PassMoment T O → Heard T → Heard T → Type 0
+ArePassSteps enc tables [] [] before after told now = (after ≡ before) × (now ≡ told)
+ArePassSteps {T} {O} enc tables (call ∷ calls) (turn ∷ turns) before after told now =
+    (next : PassMoment T O) × (then : Heard T) × IsPassCall enc tables call turn before next told then
+    × ArePassSteps enc tables calls turns next after then now
+ArePassSteps enc tables calls turns before after told now = ⊥
 
 -- pass data was refused
 pub record IsRefusal {T O : Type 0} (enc : EncoderConfig) (before : PassMoment T O) (message : List ℕ) (told now : Heard T) (fault : SessionFault) : Type 0 where

@@ -132,7 +132,7 @@ pub trait NewContext {
     /// specification's levels, and `tables` the quantisers by their index.
     ///
     /// The errors are `Invalid`, with the configuration's first refusal, one of which is a bit depth above the pixel type's;
-    /// `OutOfMemory`, which comes only with a summary.
+    /// `OutOfMemory`, which comes only with a summary and a reservoir's delay.
     final fn new_context<
         T: Pixel,
         O: Drop,
@@ -160,7 +160,8 @@ pub trait NewContext {
         ensures complete { pixel_refusal T.BITS levels.now (settings self.now) ≡ None
             → IsOk result ⊎ (result ≡ Err NoMemory) }
         ensures memory { result ≡ Err NoMemory
-            → IsSome (settings self.now).rate_control.summary }
+            → IsSome (settings self.now).rate_control.summary
+            × IsSome (settings self.now).enc.reservoir_frame_delay }
     {
         let inner = ContextInner::new(
             alloc,

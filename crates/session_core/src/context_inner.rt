@@ -77,7 +77,7 @@ impl<
     /// specification's levels, and `tables` the quantisers by their index.
     ///
     /// The errors are `Invalid`, with the configuration's first refusal, one of which is a bit depth above the pixel type's;
-    /// `OutOfMemory`, which comes only with a summary.
+    /// `OutOfMemory`, which comes only with a summary and a reservoir's delay.
     pub fn new(
         alloc: Global,
         cfg: &Config,
@@ -97,7 +97,8 @@ impl<
             → result ≡ Err (Invalid v) }
         ensures complete { pixel_refusal T.BITS levels.now cfg.now ≡ None
             → IsOk result ⊎ (result ≡ Err NoMemory) }
-        ensures memory { result ≡ Err NoMemory → IsSome cfg.now.rate_control.summary }
+        ensures memory { result ≡ Err NoMemory
+            → IsSome cfg.now.rate_control.summary × IsSome cfg.now.enc.reservoir_frame_delay }
     {
         if let Err(refusal) = cfg.validate_for_pixel(levels, T::BITS) {
             return Err(SetupError::Invalid(refusal));

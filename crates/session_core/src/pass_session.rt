@@ -5,6 +5,8 @@ ghost use Rattle.av1_settings.specs.declared.invalid.InvalidConfig.{InvalidConfi
 ghost use Rattle.av1_settings.specs.Checks.{asks_passes, IsValid};
 ghost use Rattle.pass_data.specs.declared.error.PassDataError.{PassDataError as Refusal};
 ghost use Rattle.session_core.specs.declared.session.SessionError.TheVariants.{Invalid, CoderFault, PassData};
+ghost use Rattle.session_core.specs.PassStates.{ArePassSteps};
+ghost use Rattle.session_core.specs.PassTurns.{pass_moment_after, pass_opening};
 ghost use Rattle.session_core.specs.PassSessions.{IsPassSessionRun, IsRefusedAt, PassFailsAt, passes_refusal};
 ghost use Rattle.session_core.specs.Told.{heard, IsLater};
 
@@ -41,6 +43,14 @@ pub fn run_pass_session<T: Pixel, O: Drop, D: Detector<T>, S: MeanScale<T>, C: F
     // The reply table of two passes, and the headline.
     ensures session { IfOk result (λ t.
         IsPassSessionRun cfg.now.enc tables.now cfg.now.rate_control calls.items t
+        (heard (C.told coder.old) (D.told detector.old) (S.told scales.old))
+        (heard (C.told coder.new) (D.told detector.new) (S.told scales.new))) }
+
+    // It is made of steps, each as one call of a context is.
+    ensures steps { IfOk result (λ t.
+        ArePassSteps cfg.now.enc tables.now calls.items t.turns
+        (pass_opening cfg.now.enc tables.now cfg.now.rate_control)
+        (pass_moment_after cfg.now.enc tables.now cfg.now.rate_control t.decisions calls.items t.turns)
         (heard (C.told coder.old) (D.told detector.old) (S.told scales.old))
         (heard (C.told coder.new) (D.told detector.new) (S.told scales.new))) }
 

@@ -12,8 +12,8 @@ ghost use Rattle.ratecontrol.specs.Passes.{IsAnswered, RunsOut, asked, frames_ne
 ghost use Rattle.session_log.specs.Passes.{first_begun, packet_sent};
 ghost use Rattle.session_core.specs.declared.fault.SessionFault.TheVariants.{Coder, OutOfMemory as NoMemory, PassData};
 ghost use Rattle.session_core.specs.Moments.{opening};
-ghost use Rattle.session_core.specs.PassStates.{FailsPass, IsPassCall, IsReadyTurn, at_state};
-ghost use Rattle.session_core.specs.PassTurns.{IsPassData, after_given, after_taken, awaits_data, is_done, passes_begun, rate_of};
+ghost use Rattle.session_core.specs.PassStates.{FailsPass, IsBegun, IsPassCall, IsReadyTurn, at_state};
+ghost use Rattle.session_core.specs.PassTurns.{IsPassData, after_given, after_taken, awaits_data, first_of, is_done, passes_begun, rate_of};
 ghost use Rattle.session_core.specs.Quantisers.{gop_start_at, guess_at};
 ghost use Rattle.session_core.specs.States.{moment_of, passes_at, IsKept, IsReady};
 ghost use Rattle.session_core.specs.Steps.{Fails, Unused, WhereRefused};
@@ -45,16 +45,32 @@ impl<T: Drop, O: Drop> SessionState<T, O> {
         ensures tables { IfOk result (λ state. state.rate.tables ≡ tables.now) }
         ensures passes { IfOk result (λ state.
             passes_at state ≡ passes_begun enc.now tables.now control.now) }
-        ensures memory { IsErr result → IsSome control.now.summary }
+        ensures memory { IsErr result →
+            IsSome control.now.summary × IsSome enc.now.reservoir_frame_delay }
     {
-        let mut state = SessionState::new(alloc, enc, tables);
-        if control.emit_data {
-            state.begin_first_pass(enc);
-        }
+        let mut state = SessionState::with_first_pass(alloc, enc, tables, control.emit_data);
         if let Some(summary) = &control.summary {
             state.rate.begin_second_pass(summary)?;
         }
         Ok(state)
+    }
+
+    // The same without a second pass; the first is on where pass data is asked for.
+    fn with_first_pass(
+        alloc: Global,
+        enc: &EncoderConfig,
+        tables: &QTables,
+        emits: bool,
+    ) -> SessionState<T, O>
+        requires valid { IsValid enc.now }
+        ensures begun { IsBegun enc.now tables.now (first_of enc.now tables.now emits) result }
+        ensures delay { result.rate.state.set_delay ≡ enc.now.reservoir_frame_delay }
+    {
+        let mut state = SessionState::new(alloc, enc, tables);
+        if emits {
+            state.begin_first_pass(enc);
+        }
+        state
     }
 
     // Begins a first pass, where nothing is known of the frames yet.

@@ -6,7 +6,7 @@ use Rattle.session_core.specs.declared.session.SessionError.{SessionError}
 use Rattle.session_core.specs.declared.session.SessionError.TheVariants.{OutOfMemory as NoMemory, PassData as RefusedData}
 use Rattle.session_core.specs.Moments.{Moment}
 use Rattle.session_core.specs.PassTurns.{PassMoment}
-use Rattle.session_core.proofs.PassLoop.{PassCarried, PassStops, pass-opening, pass-session, pass-step, pass-stop}
+use Rattle.session_core.proofs.PassLoop.{PassCarried, PassStops, pass-opening, pass-session, pass-step, pass-steps, pass-stop}
 use Rattle.session_core.proofs.Playing.{leads-ready}
 use Rattle.session_core.proofs.Telling.{later-then}
 use Rattle.session_core.proofs.pass_session.run_pass_session.Given as given
@@ -84,18 +84,29 @@ all_done g c =
     let none : c.loop-call.call-iterator.rest.items ≡ [] = nil_from_length _ (omega (arith, c.in-None.ensures.steps.0)) in
     sym (append-nil c.loop-call.yielded) ∙ ap (λ rest. c.loop-call.yielded ++ rest) (sym none) ∙ c.loop-call.invariant.3
 
-pub returns-clause-session : goal.returns-clause-session
-returns-clause-session g c =
+-- what the loop kept, of all calls and the transcript's turns
+all_kept : (g : given.Over) (c : goal.After-drop-state-6 g) →
+    PassCarried c.args.cfg.now.enc c.args.tables.now c.args.cfg.now.rate_control c.args.calls.items c.from_vec.result c.loop-call.state
+    (outside g c.args.coder.now c.args.detector.now c.args.scales.now) (outside g c.loop-call.coder c.loop-call.detector c.loop-call.scales)
+all_kept g c =
     let enc = c.args.cfg.now.enc in
     let tables = c.args.tables.now in
     let control = c.args.cfg.now.rate_control in
-    let calls = c.args.calls.items in
     let state = c.loop-call.state in
     let before = outside g c.args.coder.now c.args.detector.now c.args.scales.now in
     let now = outside g c.loop-call.coder c.loop-call.detector c.loop-call.scales in
     let all = subst (λ done. PassCarried enc tables control done c.loop-call.turns.items state before now) (all_done g c) c.loop-call.invariant.2 in
-    pass-session enc tables control calls (record { turns = c.from_vec.result; decisions = c.from_vec-2.result }) state before now
-    (subst (λ turns. PassCarried enc tables control calls turns state before now) (sym c.from_vec.ensures) all) c.from_vec-2.ensures
+    subst (λ turns. PassCarried enc tables control c.args.calls.items turns state before now) (sym c.from_vec.ensures) all
+
+pub returns-clause-session : goal.returns-clause-session
+returns-clause-session g c =
+    pass-session c.args.cfg.now.enc c.args.tables.now c.args.cfg.now.rate_control c.args.calls.items (record { turns = c.from_vec.result; decisions = c.from_vec-2.result }) c.loop-call.state _ _
+    (all_kept g c) c.from_vec-2.ensures
+
+pub returns-clause-steps : goal.returns-clause-steps
+returns-clause-steps g c =
+    pass-steps c.args.cfg.now.enc c.args.tables.now c.args.cfg.now.rate_control c.args.calls.items (record { turns = c.from_vec.result; decisions = c.from_vec-2.result }) c.loop-call.state _ _
+    (all_kept g c) c.from_vec-2.ensures
 
 pub returns-in-Err-push-clause-later : goal.returns-in-Err-push-clause-later
 returns-in-Err-push-clause-later g c = later-then _ _ _ c.loop-call.invariant.2.playing.later c.in-Ok-pass_turn.ensures.later
