@@ -1,5 +1,6 @@
 mod Counts
 mod FaultPlans
+mod Filling
 mod Handed
 mod JobRuns
 mod Moves

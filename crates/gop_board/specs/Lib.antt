@@ -5,6 +5,7 @@
 pub mod Core
 pub mod CoreFields
 pub mod CoreRuns
+pub mod Deposited
 pub mod Handing
 pub mod JobCalls
 pub mod JobLaws
@@ -16,3 +17,4 @@ pub mod Packets
 pub mod PassFields
 pub mod Places
 pub mod Rows
+pub mod Workers

@@ -16,6 +16,7 @@ mod make_session;
 mod split;
 #[cfg(test)]
 mod tests;
+mod worker;
 
 pub use board::{Board, Deposits, Run};
 pub use core_state::{CoreState, CoreStep, core_run, core_step};
@@ -26,3 +27,4 @@ pub use job_result::{JobResult, PacketList};
 pub use job_session::run_job;
 pub use make_session::MakeSession;
 pub use split::split_gops;
+pub use worker::work;
