@@ -6,6 +6,8 @@ pub mod Core
 pub mod CoreFields
 pub mod CoreRuns
 pub mod Deposited
+pub mod Encoding
+pub mod Gathering
 pub mod Handing
 pub mod JobCalls
 pub mod JobLaws

@@ -5,12 +5,13 @@ use Rattle.std.specs.declared.sync.Arc.{Arc}
 use Rattle.av1_frame.specs.declared.frame.Frame.{Frame}
 use Rattle.av1_frame.specs.Planes.{fits}
 use Rattle.av1_settings.specs.declared.encoder.EncoderConfig.{EncoderConfig}
+use Rattle.av1_settings.specs.declared.invalid.InvalidConfig.{InvalidConfig}
 use Rattle.quantizers.specs.Tables.{Tables}
 use Rattle.session_core.specs.Told.{CoderTold}
 use Rattle.session_core.specs.Turns.{frame_limit}
 use Rattle.gop_board.specs.declared.job.Job.{Job}
 use Rattle.gop_board.specs.declared.job_result.JobResult.{JobResult}
-use Rattle.gop_board.specs.Handing.{Passing}
+use Rattle.gop_board.specs.Handing.{Passing, Queue}
 use Rattle.gop_board.specs.JobSessions.{IsSession}
 use Rattle.gop_board.specs.Makers.{MakerTold}
 use Rattle.gop_board.specs.Rows.{Row, entry_at, is_absent}
@@ -35,6 +36,17 @@ IsResultOf {T} enc tables ahead told jobs place result =
 -- each result that is the first for a job is the second for it too
 abbrev pub EachIs : {T C : Type 0} → (ℕ → JobResult T C → Type 0) → (ℕ → JobResult T C → Type 0) → Type 0
 EachIs {T} {C} First Second = (job : ℕ) (result : JobResult T C) → First job result → Second job result
+
+-- all that a worker needs: jobs in their order that sessions take, a queue of their numbers, and a run with as many jobs, to which
+-- the results of their sessions belong
+pub record CanWork {T C : Type 0} (refusal : Option InvalidConfig) (enc : EncoderConfig) (tables : Tables) (ahead : ℕ → ℕ → MakerTold T)
+    (told : C → CoderTold T) (jobs : List (Job T)) (queue : Queue) (count : ℕ) (belongs : ℕ → JobResult T C → Type 0) : Type 0 where
+  pub valid : refusal ≡ None
+  pub frames : EachJob (λ place job. AreFitting enc job.frames) jobs
+  pub numbers : EachJob (λ place job. job.number ≡ place) jobs
+  pub queue_of : queue.jobs ≡ length jobs
+  pub run : count ≡ length jobs
+  pub belonging : EachIs (IsResultOf enc tables ahead told jobs) belongs
 
 -- ---- what a worker did
 

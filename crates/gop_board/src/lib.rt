@@ -5,7 +5,10 @@
 
 mod board;
 mod core_state;
+mod encode;
+mod fan_out;
 mod gate;
+mod gathered;
 mod job;
 mod job_calls;
 mod job_queue;
@@ -20,6 +23,7 @@ mod worker;
 
 pub use board::{Board, Deposits, Run};
 pub use core_state::{CoreState, CoreStep, core_run, core_step};
+pub use encode::{GopError, encode_gops};
 pub use gate::{Gate, OpenGate};
 pub use job::{FrameList, Job};
 pub use job_queue::{JobPass, JobQueue};
