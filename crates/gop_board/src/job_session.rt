@@ -34,7 +34,6 @@ pub fn run_job<T: Pixel, M: MakeSession<T>>(
     maker: &M,
 ) -> JobResult<T, M::Coder>
     requires valid { session_refusal T.BITS levels.now cfg.now ≡ None }
-    requires some { 0 < length job.now.frames }
     requires few { length job.now.frames ≤ 2147483646 }
     requires fit { All (λ frame. IsTrue (fits frame.value cfg.now.enc.width cfg.now.enc.height
         cfg.now.enc.chroma_sampling)) job.now.frames }
