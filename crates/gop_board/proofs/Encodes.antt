@@ -122,7 +122,7 @@ module _ {T C : Type 0} (enc : EncoderConfig) (tables : Tables) (ahead : ℕ →
   never-met none job command coder met =
       let fails : met.before.coder.fails_after ≡ Some None =
       subst (λ (o : Option (Option ℕ)). IfSome o (λ fails. met.before.coder.fails_after ≡ Some fails)) (none job.number job.first) met.fresh.coder.fails_after in
-      subst (λ (o : Option (Option ℕ)). FailsBehind o (length (entries_of met.session.fails.turns ++ met.session.fails.trials))) fails met.session.fails.reached
+      subst (λ (o : Option (Option ℕ)). FailsBehind o (length (entries_of met.session.fails.turns ++ met.session.fails.trials))) fails met.session.fails.stopped.reached
 
   pub never-faulted : NoneFails ahead → (place command : ℕ) (coder : C) → IsLeastFault enc tables ahead told jobs place command coder → ⊥
   never-faulted none place command coder fault =
