@@ -1,5 +1,8 @@
 mod Counts
+mod Encodes
 mod FaultPlans
+mod Filling
+mod Gathers
 mod Handed
 mod JobRuns
 mod Moves

@@ -16,7 +16,7 @@ use Rattle.gop_board.specs.Places.{EachAtOnePlace}
 use Rattle.gop_board.proofs.Counts.{one_if}
 use Rattle.gop_board.proofs.Runs.{collected_in_order, stand_at_one_place}
 
-numbered-append : {T : Type 0} (number : ℕ) (xs ys : List (Packet T ⊤)) →
+pub numbered-append : {T : Type 0} (number : ℕ) (xs ys : List (Packet T ⊤)) →
     numbered_from number (xs ++ ys) ≡ numbered_from number xs ++ numbered_from (number + length xs) ys
 numbered-append number [] ys = let here : number ≡ number + 0 = omega arith in ap (λ (n : ℕ). numbered_from n ys) here
 numbered-append {T} number (x ∷ xs) ys =

@@ -5,6 +5,9 @@
 pub mod Core
 pub mod CoreFields
 pub mod CoreRuns
+pub mod Deposited
+pub mod Encoding
+pub mod Gathering
 pub mod Handing
 pub mod JobCalls
 pub mod JobLaws
@@ -16,3 +19,4 @@ pub mod Packets
 pub mod PassFields
 pub mod Places
 pub mod Rows
+pub mod Workers

@@ -1,5 +1,5 @@
 // Results by job number, and their collection in order.
-ghost use Rattle.std.specs.Prelude.{◌≡◌, ◌<◌, ◌≤◌, ℕ, None, Some, IfOk, IfSome, IsTrue, OnSome, Option, option_map};
+ghost use Rattle.std.specs.Prelude.{◌≡◌, ◌<◌, ◌≤◌, ℕ, false, None, Some, IfOk, IfSome, IsTrue, OnSome, Option, option_map};
 ghost use Rattle.gop_board.specs.Rows.{Row, is_absent, new_row, next_result, with_absent_entry, with_entry, without_next};
 
 use crate::JobResult;
@@ -71,7 +71,8 @@ impl<T: Drop, C: Drop, N: Run<T, C>> Board<T, C, N> {
         requires below { job < N.jobs }
         requires absent { IsTrue (is_absent self.old job) }
         requires belongs { N.belongs job job_result }
-        ensures { self.new ≡ with_entry self.old job job_result }
+        ensures row { self.new ≡ with_entry self.old job job_result }
+        ensures there { is_absent self.new job ≡ false }
     {
         self.entries[job as usize] = Some(job_result);
     }

@@ -1,7 +1,8 @@
 ghost use Rattle.std.specs.Prelude.{◌≡◌, ◌≢◌, ◌<◌, ◌++◌, OnOk, ◌≤◌, ℕ, None, Err, All, IfOk, IsTrue, length};
 ghost use Rattle.av1_frame.specs.Planes.{fits};
 ghost use Rattle.av1_settings.specs.Checks.{session_refusal};
-ghost use Rattle.session_core.specs.declared.session.SessionError.TheVariants.{CoderFault, Invalid};
+ghost use Rattle.session_core.specs.declared.session.SessionError.TheVariants.{CoderFault, Invalid, PassData};
+ghost use Rattle.pass_data.specs.declared.error.PassDataError.{PassDataError as Refusal};
 ghost use Rattle.av1_settings.specs.declared.invalid.InvalidConfig.{InvalidConfig};
 ghost use Rattle.session_core.specs.Sessions.{packets_of};
 ghost use Rattle.session_core.specs.Taken.{packet_of};
@@ -34,7 +35,6 @@ pub fn run_job<T: Pixel, M: MakeSession<T>>(
     maker: &M,
 ) -> JobResult<T, M::Coder>
     requires valid { session_refusal T.BITS levels.now cfg.now ≡ None }
-    requires some { 0 < length job.now.frames }
     requires few { length job.now.frames ≤ 2147483646 }
     requires fit { All (λ frame. IsTrue (fits frame.value cfg.now.enc.width cfg.now.enc.height
         cfg.now.enc.chroma_sampling)) job.now.frames }
@@ -69,6 +69,7 @@ fn job_packets<T: Pixel, S: MeanScale<T>, C: FrameCoder<T>>(
         (heard (C.told coder.old) finds_nothing (S.told scales.old))
         (heard (C.told coder.new) finds_nothing (S.told scales.new)) packets) }
     ensures valid { (v : InvalidConfig) → result ≢ Err (Invalid v) }
+    ensures never { (refusal : Refusal) → result ≢ Err (PassData refusal) }
     ensures fault { (command : ℕ)
         → result ≡ Err (CoderFault command)
         → IsSessionFault cfg.now.enc tables.now (pictures job.now)

@@ -5,7 +5,10 @@
 
 mod board;
 mod core_state;
+mod encode;
+mod fan_out;
 mod gate;
+mod gathered;
 mod job;
 mod job_calls;
 mod job_queue;
@@ -16,9 +19,11 @@ mod make_session;
 mod split;
 #[cfg(test)]
 mod tests;
+mod worker;
 
 pub use board::{Board, Deposits, Run};
 pub use core_state::{CoreState, CoreStep, core_run, core_step};
+pub use encode::{GopError, encode_gops};
 pub use gate::{Gate, OpenGate};
 pub use job::{FrameList, Job};
 pub use job_queue::{JobPass, JobQueue};
@@ -26,3 +31,4 @@ pub use job_result::{JobResult, PacketList};
 pub use job_session::run_job;
 pub use make_session::MakeSession;
 pub use split::split_gops;
+pub use worker::work;
