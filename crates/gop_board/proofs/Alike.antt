@@ -1,7 +1,7 @@
 -- How far a job's session comes doesn't depend on what its coder gives: two sessions of the same calls stand alike, call by call.
-use Rattle.std.proofs.Common.{◌≡◌, ◌⊎◌, ◌||◌, nat_le, ℕ, zero, suc, ◌+◌, ◌-◌, ◌<◌, ◌≤◌, Bool, true, false, cond, not, eqb, ◌&&◌, nat_lt, List, [], ◌∷◌, ◌++◌, map, filter, length, take, drop, count_by, MatchBool, MatchOption, Option, None, Some, ℤ, pos, refl, sym, ap, ap₂, ◌∙◌, subst, arith, append-nil, length-append}
+use Rattle.std.proofs.Common.{◌≡◌, ◌||◌, nat_le, ℕ, zero, suc, ◌+◌, ◌≤◌, Bool, true, false, cond, not, eqb, ◌&&◌, nat_lt, List, [], ◌∷◌, ◌++◌, map, filter, length, take, drop, count_by, MatchBool, MatchOption, Option, None, Some, pos, refl, sym, ap, ap₂, ◌∙◌, subst, arith, append-nil, length-append}
 use Rattle.std.specs.Prelude.{⊤, int_lt}
-use Rattle.std.specs.List.{flat_map, slice_get}
+use Rattle.std.specs.List.{slice_get}
 use Rattle.std.proofs.lemmas.List.{map-append}
 use Rattle.std.proofs.lemmas.List.Elements.{filter-append}
 use Rattle.std.proofs.lemmas.Option.{none-some, same_Some}
@@ -24,10 +24,10 @@ use Rattle.session_core.specs.declared.transcript.Decision.{Decision}
 use Rattle.session_core.specs.declared.transcript.Reply.{Reply}
 use Rattle.session_core.specs.declared.transcript.Reply.TheVariants.{Sent, Flushed, Packet as GivesPacket, Status}
 use Rattle.session_core.specs.declared.transcript.Turn.{Turn}
-use Rattle.session_core.specs.Decisions.{key_positions, keys_of}
-use Rattle.session_core.specs.Moments.{Accepted, Moment, known_at, plan_at}
+use Rattle.session_core.specs.Decisions.{keys_of}
+use Rattle.session_core.specs.Moments.{Accepted, Moment, plan_at}
 use Rattle.session_core.specs.Sessions.{entries_of}
-use Rattle.session_core.specs.Turns.{AreTrials, BeginTrials, CodesNext, IsNextPacket, IsTrial, IsTurn, OnlyReplies, accepted_of, after_receive, after_send, after_turn, held_back, is_showing, real_entries, sent_reply, frame_limit}
+use Rattle.session_core.specs.Turns.{CodesNext, IsNextPacket, IsTrial, IsTurn, OnlyReplies, accepted_of, after_receive, after_send, after_turn, held_back, is_showing, real_entries, sent_reply, frame_limit}
 use Rattle.session_log.specs.declared.entry.LogEntry.{LogEntry}
 use Rattle.session_log.specs.Readings.{measured, start_of}
 use Rattle.session_log.specs.Selection.{is_trial_due}
