@@ -1,11 +1,12 @@
 -- The jobs of frames, and a whole run of them.
-use Rattle.std.proofs.Common.{◌≡◌, ◌⊎◌, ℕ, zero, suc, ◌+◌, ◌<◌, ◌≤◌, List, [], ◌∷◌, ◌++◌, length, map, get_or, Option, Some, None, Result, Ok, Err, refl, sym, ap, ◌∙◌, subst, inl, inr, length-append, arith}
+use Rattle.std.proofs.Common.{◌≡◌, ◌⊎◌, ℕ, zero, suc, ◌+◌, ◌<◌, ◌≤◌, List, [], ◌∷◌, ◌++◌, length, map, Option, Some, None, Result, Ok, Err, refl, sym, ap, ◌∙◌, subst, inl, inr, length-append, arith}
 use Rattle.std.specs.Prelude.{⊤, All, IsTrue, IsOk, IfErr, IfSome, flat_map, slice_get}
 use Rattle.std.specs.List.{AllZip}
 use Rattle.std.specs.declared.alloc.Global.{Global}
 use Rattle.std.specs.declared.sync.Arc.{Arc}
 use Rattle.std.proofs.lemmas.List.{get_or_append_left, get_or-append-add, get_or-map, length-map}
 use Rattle.std.proofs.lemmas.List.Elements.{All-map}
+use Rattle.std.proofs.lemmas.Bool.{cases_lt}
 use Rattle.std.proofs.lemmas.Option.{none-some, same_Some}
 use Rattle.av1_frame.specs.declared.frame.Frame.{Frame}
 use Rattle.av1_frame.specs.Planes.{fits}
@@ -19,14 +20,15 @@ use Rattle.gop_board.specs.declared.encode.GopError.TheVariants.{Invalid, CoderF
 use Rattle.gop_board.specs.declared.job.Job.{Job}
 use Rattle.gop_board.specs.declared.job_result.JobResult.{JobResult}
 use Rattle.gop_board.specs.declared.job_result.JobResult.TheVariants.{Packets, Fault, OutOfMemory}
-use Rattle.gop_board.specs.Encoding.{IsJobsCause, IsLeastFault, JoinsPackets, NoneFails}
+use Rattle.gop_board.specs.Encoding.{IsJobsCause, IsLeastFault, JoinsPackets, NoneFails, TellsFails}
 use Rattle.gop_board.specs.Jobs.{AreJobs, pictures}
 use Rattle.gop_board.specs.JobSessions.{GavePackets, IsSession, MetFault}
 use Rattle.gop_board.specs.Makers.{MakerTold}
-use Rattle.gop_board.specs.Packets.{numbered, packets_before_fault}
+use Rattle.gop_board.specs.Packets.{numbered}
 use Rattle.gop_board.specs.Workers.{AreFitting, EachJob, IsResultOf}
 use Rattle.gop_board.specs.declared.gathered.Gathered.{Gathered}
 use Rattle.gop_board.specs.declared.gathered.JobFault.{JobFault}
+use Rattle.gop_board.proofs.FaultsApart.{apart, one-command}
 use Rattle.gop_board.proofs.Gathers.{HasMemory, IsGathering, first-at, first_fault, parts-join, parts_of, zip-at, zip-of}
 
 -- ---- what holds of all frames holds of a job's
@@ -93,6 +95,33 @@ module _ {T C : Type 0} (enc : EncoderConfig) (tables : Tables) (ahead : ℕ →
   gave-all number (job ∷ some) (Fault command coder ∷ results) none memory all = absurd (none-some _ (sym none))
   gave-all number (job ∷ some) (OutOfMemory ∷ results) none memory all = absurd (memory 0 refl)
 
+  -- ---- the least fault, where the first failing calls are told
+
+  module _ (results : List (JobResult T C)) (each : AllZip (IsSession enc tables ahead told) jobs results) (place command : ℕ) (coder : C)
+      (fault : slice_get results place ≡ Some (Fault command coder))
+      (least : (before : ℕ) → before < place → (packets : List (Packet T ⊤)) × (slice_get results before ≡ Some (Packets packets))) (tells : TellsFails ahead)
+      (at : ℕ) (job : Job T) (other : ℕ) (other_coder : CoderTold T) (is : slice_get jobs at ≡ Some job)
+      (met : MetFault enc tables (ahead job.number job.first) (pictures job) other other_coder) where
+    met-by : (one : Job T) → one ≡ job → MetFault enc tables (ahead one.number one.first) (pictures one) other other_coder
+    met-by one same = subst (λ (j : Job T). MetFault enc tables (ahead j.number j.first) (pictures j) other other_coder) (sym same) met
+
+    not-before : at < place → ⊥
+    not-before less =
+        let gave = least at less in
+        let its = zip-at (IsSession enc tables ahead told) jobs results at (Packets gave.0) each gave.1 in
+        apart enc tables (ahead its.0.number its.0.first) (pictures its.0) gave.0 other other_coder (tells its.0.number its.0.first) its.2
+        (met-by its.0 (same_Some its.0 job (sym its.1 ∙ is)))
+
+    same-command : at ≡ place → other ≡ command
+    same-command here =
+        let its = zip-at (IsSession enc tables ahead told) jobs results place (Fault command coder) each fault in
+        let there : slice_get jobs place ≡ Some job = subst (λ (n : ℕ). slice_get jobs n ≡ Some job) here is in
+        one-command enc tables (ahead its.0.number its.0.first) (pictures its.0) other command other_coder (told coder) (tells its.0.number its.0.first)
+        (met-by its.0 (same_Some its.0 job (sym its.1 ∙ there))) its.2
+
+    told-least : (place ≤ at) × (at ≡ place → other ≡ command)
+    told-least = (elim (cases_lt at place) [ inl less ↦ absurd (not-before less) | inr from ↦ from ], same-command)
+
   module _ (count : ℕ) (gathered : Gathered T C) (g : IsGathering (IsResultOf enc tables ahead told jobs) count gathered) (every : count ≡ length jobs) where
     sessions : AllZip (IsSession enc tables ahead told) jobs g.results
     sessions = zip-of (IsSession enc tables ahead told) jobs g.results (g.count ∙ every) g.each
@@ -114,6 +143,9 @@ module _ {T C : Type 0} (enc : EncoderConfig) (tables : Tables) (ahead : ℕ →
           fault = subst (λ (n : ℕ). slice_get g.results n ≡ Some (Fault fault.command fault.coder)) here first.there;
           least = λ before less. first.least before (omega (arith, less, here));
           memory = g.memory;
+          told_least = told-least g.results sessions fault.job fault.command fault.coder
+              (subst (λ (n : ℕ). slice_get g.results n ≡ Some (Fault fault.command fault.coder)) here first.there)
+              (λ before less. first.least before (omega (arith, less, here)));
         }
 
   -- ---- no fault where none is told

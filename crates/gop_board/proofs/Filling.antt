@@ -1,15 +1,14 @@
 -- What a worker does, number by number: the entries that it sets in a row, and its pass.
-use Rattle.std.proofs.Common.{◌≡◌, ◌⊎◌, ◌&&◌, ℕ, suc, ◌+◌, ◌-◌, ◌^◌, ◌<◌, ◌≤◌, Bool, true, false, cond, not, ltb, List, [], ◌∷◌, ◌++◌, length, drop, set, get_or, Option, Some, None, is_none, refl, sym, ap, ◌∙◌, subst, inl, inr, append_assoc, append-nil, arith}
+use Rattle.std.proofs.Common.{◌≡◌, ◌⊎◌, ◌&&◌, ℕ, ◌<◌, ◌≤◌, Bool, true, false, cond, not, ltb, List, [], ◌∷◌, ◌++◌, length, set, get_or, Option, Some, None, is_none, refl, sym, ap, ◌∙◌, subst, inl, inr, append_assoc, append-nil, arith}
 use Rattle.std.specs.Prelude.{Contains, option_map}
-use Rattle.std.proofs.lemmas.Bool.{cases_eq, cases_lt, ltb-false, and_right, false≢true}
+use Rattle.std.proofs.lemmas.Bool.{cases_eq, cases_lt, and_right, false≢true}
 use Rattle.std.proofs.lemmas.List.{get_or-set_same, get_or-set_other, get_or_past, length-set, set_past}
 use Rattle.std.proofs.lemmas.List.Elements.{Contains-append_cases, Contains-append_left, Contains-append_right, Contains-push, Contains-push_cases}
 use Rattle.std.proofs.lemmas.Option.{none-some, same_Some}
-use Rattle.coding_base.specs.Faults.{Rose, last_count}
 use Rattle.gop_board.specs.declared.job_result.JobResult.{JobResult}
 use Rattle.gop_board.specs.Handing.{Passing, after_pop}
 use Rattle.gop_board.specs.Rows.{Row, entry_at, is_absent, with_absent_entry, with_entry}
-use Rattle.gop_board.specs.Workers.{Fills, IsFilled, given_since}
+use Rattle.gop_board.specs.Workers.{Fills, IsFilled}
 
 -- ---- a row
 

@@ -1,6 +1,8 @@
+mod Alike
 mod Counts
 mod Encodes
 mod FaultPlans
+mod FaultsApart
 mod Filling
 mod Gathers
 mod Handed

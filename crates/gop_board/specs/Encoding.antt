@@ -1,5 +1,5 @@
 -- Frames coded as jobs side by side: the packets of all jobs, or the fault of the least job that has one.
-use Rattle.std.specs.Prelude.{◌≡◌, ℕ, ◌<◌, ⊤, List, map, flat_map, slice_get, Option, None, Some}
+use Rattle.std.specs.Prelude.{◌≡◌, ℕ, ◌<◌, ◌≤◌, ⊤, IsSome, List, flat_map, slice_get, Option, None, Some}
 use Rattle.std.specs.List.{AllZip}
 use Rattle.av1_frame.specs.declared.frame.Frame.{Frame}
 use Rattle.av1_settings.specs.declared.encoder.EncoderConfig.{EncoderConfig}
@@ -13,7 +13,7 @@ use Rattle.gop_board.specs.declared.job.Job.{Job}
 use Rattle.gop_board.specs.declared.job_result.JobResult.{JobResult}
 use Rattle.gop_board.specs.declared.job_result.JobResult.TheVariants.{Packets, Fault, OutOfMemory}
 use Rattle.gop_board.specs.Jobs.{IsSplit, pictures}
-use Rattle.gop_board.specs.JobSessions.{GavePackets, IsSession}
+use Rattle.gop_board.specs.JobSessions.{GavePackets, IsSession, MetFault}
 use Rattle.gop_board.specs.Makers.{MakerTold}
 use Rattle.gop_board.specs.Packets.{numbered}
 
@@ -23,6 +23,10 @@ pub record JoinsPackets {T : Type 0} (enc : EncoderConfig) (tables : Tables) (ah
   pub parts : List (List (Packet T ⊤))
   pub each : AllZip (λ job part. GavePackets enc tables (ahead job.number job.first) (pictures job) part) jobs parts
   pub joined : packets ≡ numbered (flat_map (λ part. part) parts)
+
+-- the maker tells the first failing call of each coder, or that none fails
+abbrev pub TellsFails : {T : Type 0} → (ℕ → ℕ → MakerTold T) → Type 0
+TellsFails ahead = (job first : ℕ) → IsSome (ahead job first).fails_after
 
 -- each of these jobs has its result. The job that stands at `place` met this fault, all before it gave packets, and none ran out
 -- of memory
@@ -34,6 +38,10 @@ pub record IsLeastFault {T C : Type 0} (enc : EncoderConfig) (tables : Tables) (
   pub least : (before : ℕ) → before < place →
       (packets : List (Packet T ⊤)) × (slice_get results before ≡ Some (Packets packets))
   pub memory : (at : ℕ) → slice_get results at ≡ Some OutOfMemory → ⊥
+  -- where the first failing calls are told, a fault belongs to no job before it, and to it none behind another number of commands
+  pub told_least : TellsFails ahead → (at : ℕ) (job : Job T) (other : ℕ) (other_coder : CoderTold T) → slice_get jobs at ≡ Some job →
+      MetFault enc tables (ahead job.number job.first) (pictures job) other other_coder →
+      (place ≤ at) × (at ≡ place → other ≡ command)
 
 -- the packets of all jobs that these frames are split into
 pub record IsWhole {T : Type 0} (enc : EncoderConfig) (tables : Tables) (ahead : ℕ → ℕ → MakerTold T)

@@ -1,7 +1,6 @@
 -- What is gathered from results, in the order of the jobs.
-use Rattle.std.specs.Prelude.{◌≡◌, ℕ, ◌+◌, ⊤, List, [], ◌∷◌, ◌++◌, length, is_none, if◌then◌else◌, Option, None, Some}
+use Rattle.std.specs.Prelude.{◌≡◌, ℕ, ◌++◌, length, is_none, if◌then◌else◌, Some}
 use Rattle.gop_board.specs.declared.gathered.Gathered.{Gathered}
-use Rattle.gop_board.specs.declared.gathered.JobFault.{JobFault}
 use Rattle.gop_board.specs.declared.job_result.JobResult.{JobResult}
 use Rattle.gop_board.specs.declared.job_result.JobResult.TheVariants.{Packets, Fault, OutOfMemory}
 use Rattle.gop_board.specs.Packets.{numbered_from}

@@ -7,6 +7,7 @@ pub mod CoreFields
 pub mod CoreRuns
 pub mod Deposited
 pub mod Encoding
+pub mod FaultLaws
 pub mod Gathering
 pub mod Handing
 pub mod JobCalls

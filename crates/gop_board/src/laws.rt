@@ -2,6 +2,7 @@
 //! `specs/CoreRuns`, `specs/Packets` and, of one job, `specs/JobLaws` spell them out.
 
 ghost use Rattle.gop_board.specs.JobLaws.{FaultsAreOnThePlan, PacketsAreDetermined};
+ghost use Rattle.gop_board.specs.FaultLaws.{FaultsAreDetermined};
 ghost use Rattle.gop_board.specs.CoreRuns.{JobsAreCollectedInOrder, JobsStandAtOnePlace};
 ghost use Rattle.gop_board.specs.Packets.{CollectedPacketsAreInOrder};
 
@@ -34,4 +35,10 @@ pub fn packets_of_a_job_are_determined<T, M: MakeSession<T>>()
 /// frame alone is decided to be a key. The frames fit the settings, and are no more than a session accepts.
 pub fn faults_are_on_the_plan<T, M: MakeSession<T>>()
     ensures { FaultsAreOnThePlan M.told }
+{}
+
+/// Where a maker tells the first failing call of a job's coder, the job doesn't both give packets and meet a fault, and its fault
+/// has one command.
+pub fn faults_are_determined<T, M: MakeSession<T>>()
+    ensures { FaultsAreDetermined M.told }
 {}

@@ -9,9 +9,18 @@ use std::test::Fail;
 
 // Answers yes at its cuts, and keeps position, last key and number of frames of each question.
 #[derive(Drop)]
-struct Cuts {
+pub struct Cuts {
     cuts: [u64; 2],
     asked: Vec<(u64, u64, usize)>,
+}
+
+impl Cuts {
+    pub fn new(alloc: Global, cuts: [u64; 2]) -> Cuts {
+        Cuts {
+            cuts,
+            asked: Vec::new(alloc),
+        }
+    }
 }
 
 impl<T> Detector<T> for Cuts {
@@ -45,10 +54,7 @@ fn frames<T: Pixel>(alloc: Global, count: usize) -> Result<Vec<Arc<Frame<T>>>, O
 #[test]
 fn three_jobs_of_four_frames(rt: HostRuntime) -> Result<(), Fail> {
     let alloc = rt.alloc();
-    let mut detector = Cuts {
-        cuts: [4, 8],
-        asked: Vec::new(alloc),
-    };
+    let mut detector = Cuts::new(alloc, [4, 8]);
     let jobs = split_gops(
         alloc,
         &Config::new(),
@@ -86,10 +92,7 @@ fn no_frames_give_no_job(rt: HostRuntime) -> Result<(), Fail> {
     let mut config = Config::new();
     config.enc.low_latency = true;
     for (count, jobs, asked) in [(0, 0, 0), (1, 1, 0), (6, 2, 5)] {
-        let mut detector = Cuts {
-            cuts: [5, 6],
-            asked: Vec::new(alloc),
-        };
+        let mut detector = Cuts::new(alloc, [5, 6]);
         let found = split_gops(alloc, &config, frames::<u16>(alloc, count)?, &mut detector)?;
         assert_eq!(rt; (found.len(), detector.asked.len()), (jobs, asked));
         assert!(rt; detector.asked.iter().all(|question| question.2 <= 4));

@@ -1,4 +1,4 @@
-use Rattle.std.proofs.Common.{◌≡◌, List, Some, sym, subst, ap, ◌∙◌}
+use Rattle.std.proofs.Common.{◌≡◌, List, Some, subst}
 use Rattle.std.specs.Prelude.{slice_get}
 use Rattle.gop_board.specs.declared.job.Job.{Job}
 use Rattle.gop_board.proofs.Encodes.{finishes, jobs-fitting, jobs-numbers}
