@@ -12,7 +12,7 @@ use Rattle.av1_settings.specs.declared.rate_control.RateControlConfig.{RateContr
 use Rattle.av1_settings.specs.Invalid.{number_of}
 use Rattle.byte_streams.specs.Streams.{IsTooLong, ReadsAll, TakesAtMost}
 use Rattle.script_lines.specs.declared.script.Script.{Script}
-use Rattle.script_lines.specs.Grammar.{IsRateControl, script_of}
+use Rattle.script_lines.specs.Grammar.{IsRateControl}
 use Rattle.pass_stats.proofs.SummaryFacts.{first_met-Summary}
 use Rattle.session_core.specs.declared.transcript.Transcript.{Transcript}
 use Rattle.session_core.specs.Told.{FailsBehind, Heard}
@@ -20,7 +20,7 @@ use Rattle.session_script.specs.declared.outcome.Layout.{Layout}
 use Rattle.session_script.specs.declared.outcome.Outcome.{Outcome}
 use Rattle.session_script.specs.declared.outcome.Outcome.TheVariants.{WrongWords, Unreadable, TooLong, BadLine, RefusedPassData, Refused, CoderFault, Done, Unwritten, OutOfMemory}
 use Rattle.session_script.specs.declared.run.TheConstants.{MOST_BYTES}
-use Rattle.session_script.specs.Carried.{HasRefusedSummary, IsCarriedOut, IsRefused, IsStopped, IsValidScript, NamesFault, script_refusal, status_for_script}
+use Rattle.session_script.specs.Carried.{HasRefusedSummary, IsCarriedOut, IsRefused, IsStopped, IsValidScript, NamesFault, one_pass_script, script_refusal, status_for_script}
 use Rattle.session_script.specs.Outcomes.{HasFault, IsRun, IsScriptOutcome, IsSourceOutcome, IsStatus, IsTaskOutcome, IsTold, IsToldOutcome, IsWritten, Span, cut_short, status_for, status_of}
 use Rattle.session_script.specs.declared.words.Task.{Task}
 use Rattle.session_script.specs.declared.words.Task.TheVariants.{Run, Generate}
@@ -35,7 +35,7 @@ reads_some limit (Some all) after bytes P read holds = (read.0, read.1, subst P 
 
 pub read_outcome : (source : Span) (heard : Heard ℕ) (bytes : List ℕ) (outcome : Outcome) →
     ReadsAll MOST_BYTES source.known source.known_after (λ all. all ≡ bytes) →
-    IsScriptOutcome heard (script_of bytes) outcome → IsSourceOutcome source heard outcome
+    IsScriptOutcome heard (one_pass_script bytes) outcome → IsSourceOutcome source heard outcome
 read_outcome source heard bytes WrongWords read h = h
 read_outcome source heard bytes (Unwritten t layout) read h = h
 read_outcome source heard bytes Unreadable read h = absurd h
@@ -43,7 +43,7 @@ read_outcome source heard bytes TooLong read h = absurd h
 read_outcome source heard bytes OutOfMemory read h = tt
 read_outcome source heard bytes outcome read h =
     reads_some MOST_BYTES source.known source.known_after bytes
-    (λ all. IsScriptOutcome heard (script_of all) outcome) read h
+    (λ all. IsScriptOutcome heard (one_pass_script all) outcome) read h
 
 -- ---- causes
 
@@ -86,7 +86,7 @@ generates_by source sink heard seed outcome h writes = absurd h.0
 long : (bytes : List ℕ) → MOST_BYTES < length bytes → status_for bytes ≡ 7
 long bytes more = let yes : ltb MOST_BYTES (length bytes) ≡ true = grind (arith, nat_tests) in rw yes
 
-within : (bytes : List ℕ) → length bytes ≤ MOST_BYTES → status_for bytes ≡ status_for_script (script_of bytes)
+within : (bytes : List ℕ) → length bytes ≤ MOST_BYTES → status_for bytes ≡ status_for_script (one_pass_script bytes)
 within bytes fits = rw (le-ltb MOST_BYTES (length bytes) fits)
 
 summary_status : (script : Result Script ℕ) (number : ℕ) → HasRefusedSummary number script → status_for_script script ≡ 10
@@ -140,39 +140,39 @@ module _ (sink : Span) where
   seven (Some bytes) None h = absurd h
   seven (Some bytes) (Some rest) h = inl (sym (long bytes h.0))
 
-  three : (left after : Option (List ℕ)) (line : ℕ) → ReadsAll MOST_BYTES left after (λ bytes. script_of bytes ≡ Err line) →
+  three : (left after : Option (List ℕ)) (line : ℕ) → ReadsAll MOST_BYTES left after (λ bytes. one_pass_script bytes ≡ Err line) →
       Exact left 3
   three None after line h = tt
   three (Some bytes) after line h =
-      let bad : status_for_script (script_of bytes) ≡ 3 = rw h.2 in inl (sym (within bytes h.1 ∙ bad))
+      let bad : status_for_script (one_pass_script bytes) ≡ 3 = rw h.2 in inl (sym (within bytes h.1 ∙ bad))
 
-  ten : (left after : Option (List ℕ)) (number : ℕ) → ReadsAll MOST_BYTES left after (λ bytes. HasRefusedSummary number (script_of bytes)) →
+  ten : (left after : Option (List ℕ)) (number : ℕ) → ReadsAll MOST_BYTES left after (λ bytes. HasRefusedSummary number (one_pass_script bytes)) →
       Exact left 10
   ten None after number h = tt
-  ten (Some bytes) after number h = inl (sym (within bytes h.1 ∙ summary_status (script_of bytes) number h.2))
+  ten (Some bytes) after number h = inl (sym (within bytes h.1 ∙ summary_status (one_pass_script bytes) number h.2))
 
-  four : (left after : Option (List ℕ)) (number : ℕ) → ReadsAll MOST_BYTES left after (λ bytes. IsRefused number (script_of bytes)) →
+  four : (left after : Option (List ℕ)) (number : ℕ) → ReadsAll MOST_BYTES left after (λ bytes. IsRefused number (one_pass_script bytes)) →
       Exact left 4
   four None after number h = tt
-  four (Some bytes) after number h = inl (sym (within bytes h.1 ∙ refused_status (script_of bytes) number h.2))
+  four (Some bytes) after number h = inl (sym (within bytes h.1 ∙ refused_status (one_pass_script bytes) number h.2))
 
   module _ (heard : Heard ℕ) (t : Transcript ℕ ℕ) (layout : Layout) where
-    zero_status : (left after : Option (List ℕ)) → ReadsAll MOST_BYTES left after (λ bytes. IsCarriedOut heard t layout (script_of bytes)) →
+    zero_status : (left after : Option (List ℕ)) → ReadsAll MOST_BYTES left after (λ bytes. IsCarriedOut heard t layout (one_pass_script bytes)) →
         Exact left 0
     zero_status None after h = tt
-    zero_status (Some bytes) after h = inl (sym (within bytes h.1 ∙ done_status heard (script_of bytes) t layout h.2))
+    zero_status (Some bytes) after h = inl (sym (within bytes h.1 ∙ done_status heard (one_pass_script bytes) t layout h.2))
 
-    six : (left after : Option (List ℕ)) → ReadsAll MOST_BYTES left after (λ bytes. IsCarriedOut heard t layout (script_of bytes)) →
+    six : (left after : Option (List ℕ)) → ReadsAll MOST_BYTES left after (λ bytes. IsCarriedOut heard t layout (one_pass_script bytes)) →
         HasFault sink → Exact left 6
     six None after h failed = tt
     six (Some bytes) after h failed =
-        inr (inr (inl (within bytes h.1 ∙ done_status heard (script_of bytes) t layout h.2, refl, failed)))
+        inr (inr (inl (within bytes h.1 ∙ done_status heard (one_pass_script bytes) t layout h.2, refl, failed)))
 
   eight : (heard : Heard ℕ) (command : ℕ) (left after : Option (List ℕ)) →
-      ReadsAll MOST_BYTES left after (λ bytes. IsStopped heard command (script_of bytes)) → Exact left 8
+      ReadsAll MOST_BYTES left after (λ bytes. IsStopped heard command (one_pass_script bytes)) → Exact left 8
   eight heard command None after h = tt
   eight heard command (Some bytes) after h =
-      let stopped = stopped_status heard (script_of bytes) command h.2 in
+      let stopped = stopped_status heard (one_pass_script bytes) command h.2 in
       inr (inr (inr (within bytes h.1 ∙ stopped.0, refl, stopped.1)))
 
   exact_by : (source : Span) (heard : Heard ℕ) (outcome : Outcome) →

@@ -1,5 +1,5 @@
 -- The calls that a script asks for, by value.
-use Rattle.std.specs.Prelude.{ℕ, ◌*◌, Bool, true, false, Option, None, Some, replicate, []}
+use Rattle.std.specs.Prelude.{ℕ, ◌*◌, Bool, true, false, List, Option, None, Some, replicate, []}
 use Rattle.av1_frame.specs.declared.frame.Plane.{Plane}
 use Rattle.av1_frame.specs.declared.frame.Frame.{Frame}
 use Rattle.av1_frame.specs.declared.sampling.ChromaSampling.{ChromaSampling}
@@ -7,16 +7,20 @@ use Rattle.av1_frame.specs.Sizes.{chroma_size}
 use Rattle.av1_settings.specs.declared.encoder.EncoderConfig.{EncoderConfig}
 use Rattle.script_lines.specs.declared.line.Action.{Action}
 use Rattle.script_lines.specs.declared.line.Action.TheVariants.{Send as SendAction, SendKey, SendOpaque, SendSize, Flush as FlushAction, Receive as ReceiveAction}
+use Rattle.script_lines.specs.declared.line.ScriptCall.{ScriptCall}
+use Rattle.script_lines.specs.declared.line.ScriptCall.TheVariants.{Act, Give}
 use Rattle.session_core.specs.declared.call.Call.{Call}
 use Rattle.session_core.specs.declared.call.Call.TheVariants.{Send, Flush, Receive}
 use Rattle.session_core.specs.Moments.{Accepted}
 use Rattle.session_core.specs.Turns.{accepted_of}
 
--- what a call asks for: to send a frame, with what is sent with it; to flush; to receive
+-- what a call asks for: to send a frame, with what is sent with it; to flush; to receive; to give pass data, which no call of a
+-- session in one pass does
 pub data Asked : Type 0 where
   Sends : Accepted ℕ ℕ → Asked
   Flushes : Asked
   Receives : Asked
+  Gives : List ℕ → Asked
 
 abbrev pub asked_by : Call ℕ ℕ → Asked
 asked_by (Send frame parameters) = Sends (accepted_of frame.value parameters)
@@ -44,13 +48,18 @@ abbrev pub frame_of : Frame ℕ → Bool → Option ℕ → Accepted ℕ ℕ
 frame_of picture forced opaque =
     record { picture = picture; forced = forced; opaque = opaque; t35 = [] }
 
--- what a line of a script asks for: a frame has the opaque value that its line gives, else none, and one of another size
--- has the settings' sampling
-abbrev pub asked_for : EncoderConfig → Action → Asked
-asked_for enc SendAction = Sends (frame_of (own_picture enc) false None)
-asked_for enc SendKey = Sends (frame_of (own_picture enc) true None)
-asked_for enc (SendOpaque value) = Sends (frame_of (own_picture enc) false (Some value))
-asked_for enc (SendSize width height) =
+-- what a call of any session asks for in a script: a frame has the opaque value that its line gives, else none, and one of
+-- another size has the settings' sampling
+abbrev pub asked_in_any : EncoderConfig → Action → Asked
+asked_in_any enc SendAction = Sends (frame_of (own_picture enc) false None)
+asked_in_any enc SendKey = Sends (frame_of (own_picture enc) true None)
+asked_in_any enc (SendOpaque value) = Sends (frame_of (own_picture enc) false (Some value))
+asked_in_any enc (SendSize width height) =
     Sends (frame_of (plain_picture width height enc.chroma_sampling) false None)
-asked_for enc FlushAction = Flushes
-asked_for enc ReceiveAction = Receives
+asked_in_any enc FlushAction = Flushes
+asked_in_any enc ReceiveAction = Receives
+
+-- what a call of a script asks for
+abbrev pub asked_for : EncoderConfig → ScriptCall → Asked
+asked_for enc (Act action) = asked_in_any enc action
+asked_for enc (Give bytes) = Gives bytes.items

@@ -12,7 +12,8 @@ use Rattle.generated_script.specs.Generated.{generated}
 use Rattle.script_lines.specs.declared.answer.Print.{Print}
 use Rattle.script_lines.specs.declared.answer.Print.TheVariants.{Bytes as PrintBytes, QuantizerIndex, Reservoir as PrintReservoir}
 use Rattle.script_lines.specs.declared.script.Script.{Script}
-use Rattle.script_lines.specs.Grammar.{IsRateControl, config_of, summary_refusal}
+use Rattle.script_lines.specs.declared.dialect.Dialect.TheVariants.{Run}
+use Rattle.script_lines.specs.Grammar.{IsRateControl, config_of, script_of, summary_refusal}
 use Rattle.script_lines.specs.SettingLines.{encoder_of}
 use Rattle.scripted.specs.declared.coder.ScriptedCoder.{ScriptedCoder}
 use Rattle.scripted.specs.declared.detector.ScriptedDetector.{ScriptedDetector}
@@ -95,6 +96,10 @@ pub record StopsAt (heard : Heard ℕ) (script : Script) (command : ℕ) : Type 
   pub fails : FailsAt (encoder_of script.settings) scripted_tables calls (heard_first script) heard command
 
 -- ---- of bytes, by what they are as a script
+
+-- what bytes are as the script of a session in one pass
+abbrev pub one_pass_script : List ℕ → Result Script ℕ
+one_pass_script bytes = script_of Run bytes
 
 -- a session carried it out, and its turns are reported with its print options
 abbrev pub IsCarriedOut : Heard ℕ → Transcript ℕ ℕ → Layout → Result Script ℕ → Type 0

@@ -5,7 +5,6 @@ use Rattle.std.specs.Io.KnownBytes.{Appends, Keeps}
 use Rattle.coding_base.specs.Faults.{Rose}
 use Rattle.byte_streams.specs.Streams.{GrowsByPart, IsTooLong, ReadsAll, TakesAtMost}
 use Rattle.script_lines.specs.declared.script.Script.{Script}
-use Rattle.script_lines.specs.Grammar.{script_of}
 use Rattle.session_core.specs.declared.transcript.Transcript.{Transcript}
 use Rattle.session_core.specs.Told.{Heard}
 use Rattle.session_core.specs.declared.transcript.Turn.{Turn}
@@ -19,7 +18,7 @@ use Rattle.session_script.specs.declared.outcome.Report.{Report}
 use Rattle.session_script.specs.declared.run.TheConstants.{MOST_BYTES}
 use Rattle.session_script.specs.declared.words.Task.{Task}
 use Rattle.session_script.specs.declared.words.Task.TheVariants.{Run, Generate}
-use Rattle.session_script.specs.Carried.{HasRefusedSummary, IsCarriedOut, IsGenerated, IsRefused, IsStopped, NamesFault, status_for_script}
+use Rattle.session_script.specs.Carried.{HasRefusedSummary, IsCarriedOut, IsGenerated, IsRefused, IsStopped, NamesFault, one_pass_script, status_for_script}
 use Rattle.session_script.specs.Words.{task_of}
 
 -- ---- what an outcome answers
@@ -121,7 +120,7 @@ IsUnread source = (source.known_after ≡ source.known) × (source.faults_after 
 -- the source was read to its end, and what its bytes are as a script meets this
 abbrev pub ReadsScript : Span → (Result Script ℕ → Type 0) → Type 0
 ReadsScript source P =
-    ReadsAll MOST_BYTES source.known source.known_after (λ bytes. P (script_of bytes))
+    ReadsAll MOST_BYTES source.known source.known_after (λ bytes. P (one_pass_script bytes))
 
 -- what bytes came to as a script
 abbrev pub IsScriptOutcome : Heard ℕ → Result Script ℕ → Outcome → Type 0
@@ -167,7 +166,7 @@ IsOutcome words source heard outcome =
 -- the status for a source's bytes, where neither coder nor sink fails
 abbrev pub status_for : List ℕ → ℕ
 status_for bytes =
-    if nat_lt MOST_BYTES (length bytes) then 7 else status_for_script (script_of bytes)
+    if nat_lt MOST_BYTES (length bytes) then 7 else status_for_script (one_pass_script bytes)
 
 -- the status is the one that the bytes ask for; or memory ran out; or, in place of 0, the sink failed while the report was
 -- written, or the coder failed, at a call that the script names
@@ -175,7 +174,7 @@ abbrev pub IsStatus : Span → List ℕ → ℕ → Type 0
 IsStatus sink bytes status =
     (status ≡ status_for bytes) ⊎ (status ≡ 9)
     ⊎ ((status_for bytes ≡ 0) × (status ≡ 6) × HasFault sink)
-    ⊎ ((status_for bytes ≡ 0) × (status ≡ 8) × NamesFault (script_of bytes))
+    ⊎ ((status_for bytes ≡ 0) × (status ≡ 8) × NamesFault (one_pass_script bytes))
 
 -- what a sink was given for an outcome
 pub record IsWritten (sink : Span) (outcome : Outcome) : Type 0 where

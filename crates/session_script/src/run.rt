@@ -1,8 +1,8 @@
 ghost use Rattle.std.specs.Prelude.{◌≡◌, ◌≢◌, ◌+◌, ◌≤◌, ℕ, OnOk, Ok, None, Some};
 ghost use Rattle.std.specs.List.{list_any};
 ghost use Rattle.byte_streams.specs.Streams.{TakesAtMost};
-ghost use Rattle.script_lines.specs.Grammar.{script_of};
-ghost use Rattle.session_script.specs.Carried.{asks_bytes, asks_index, asks_reservoir, heard_first, heard_of, options_of};
+ghost use Rattle.script_lines.specs.Grammar.{GivesNothing};
+ghost use Rattle.session_script.specs.Carried.{asks_bytes, asks_index, asks_reservoir, heard_first, heard_of, one_pass_script, options_of};
 ghost use Rattle.session_script.specs.declared.run.TheConstants.{MOST_BYTES};
 ghost use Rattle.session_script.specs.declared.words.Task.TheVariants.{Generate};
 ghost use Rattle.session_script.specs.Outcomes.{IsAnswer, IsRun, IsScriptOutcome, IsSeedOutcome, IsSourceOutcome, IsTaskOutcome, IsTold, IsWritten, span, status_of};
@@ -15,7 +15,7 @@ use av1_frame::Pixel;
 use byte_streams::{ReadError, Sink, Source, read_all, write_all};
 use coding_base::OutOfMemory;
 use generated_script::generated_script;
-use script_lines::{Print, Script, ScriptError, parse};
+use script_lines::{Dialect, Print, Script, ScriptError, parse};
 use scripted::{ScriptedCoder, ScriptedDetector, ScriptedScales, no_levels, scripted_tables};
 use session_core::{SessionError, run_session};
 use session_text::ReportOptions;
@@ -139,9 +139,9 @@ fn carry_out_bytes(
     scales: &mut ScriptedScales,
 ) -> Outcome
     ensures outcome { IsScriptOutcome (heard_of coder.new detector.new scales.new)
-        (script_of bytes.now) result }
+        (one_pass_script bytes.now) result }
 {
-    match parse(alloc, bytes) {
+    match parse(alloc, Dialect::Run, bytes) {
         Ok(script) => carry_out_script(alloc, &script, coder, detector, scales),
         Err(ScriptError::BadLine(line)) => Outcome::BadLine(line),
         Err(ScriptError::OutOfMemory) => Outcome::OutOfMemory,
@@ -172,6 +172,7 @@ fn carry_out_script(
     detector: &mut ScriptedDetector,
     scales: &mut ScriptedScales,
 ) -> Outcome
+    requires { GivesNothing script.now }
     ensures outcome { IsScriptOutcome (heard_of coder.new detector.new scales.new)
         (Ok script.now) result }
 {
