@@ -197,7 +197,7 @@ fn carry_out_script(
         Err(SessionError::CoderFault { command }) => Outcome::CoderFault(command),
         Err(SessionError::OutOfMemory) => Outcome::OutOfMemory,
         // The configuration was found valid above.
-        Err(SessionError::Invalid(_)) => unreachable!(),
+        Err(SessionError::Invalid(_) | SessionError::PassData(_)) => unreachable!(),
     }
 }
 
