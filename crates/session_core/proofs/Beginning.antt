@@ -1,13 +1,13 @@
 -- How the passes of a session begin.
-use Rattle.std.proofs.Common.{◌≡◌, Bool, true, false, cond, [], Option, Some, None, refl, sym, ap, ap₂, ◌∙◌, subst, subst₂}
+use Rattle.std.proofs.Common.{◌≡◌, Bool, true, false, [], Option, Some, None, refl, sym, ap, ap₂, ◌∙◌, subst}
 use Rattle.av1_settings.specs.declared.encoder.EncoderConfig.{EncoderConfig}
 use Rattle.av1_settings.specs.declared.rate_control.RateControlConfig.{RateControlConfig}
 use Rattle.pass_stats.specs.declared.summary.RCSummary.{RCSummary}
 use Rattle.quantizers.specs.Tables.{Tables}
 use Rattle.session_log.specs.Keeps.{Keeps, RateKept}
-use Rattle.session_log.specs.Passes.{Passes, first_begun, no_passes, passes_of, second_begun}
+use Rattle.session_log.specs.Passes.{Passes, first_begun, no_passes, second_begun}
 use Rattle.session_core.specs.declared.state.SessionState.{SessionState}
-use Rattle.session_core.specs.Moments.{Moment, opening}
+use Rattle.session_core.specs.Moments.{opening}
 use Rattle.session_core.specs.PassTurns.{first_of, passes_begun}
 use Rattle.session_core.specs.Quantisers.{gop_start_at, guess_at}
 use Rattle.session_core.specs.States.{moment_of, passes_at, IsKept}

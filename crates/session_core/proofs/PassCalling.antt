@@ -1,9 +1,9 @@
 -- Calls of a context that hand pass data over.
-use Rattle.std.proofs.Common.{◌≡◌, ◌⊎◌, inl, inr, ℕ, MatchOption, Option, Some, None, Result, Ok, Err, refl, sym, ap, ap₂, ◌∙◌, subst}
+use Rattle.std.proofs.Common.{◌≡◌, ◌⊎◌, inl, inr, ℕ, MatchOption, Option, Some, None, Result, Ok, Err, sym, ap, ap₂, ◌∙◌, subst}
 use Rattle.std.specs.Prelude.{MatchResult}
 use Rattle.av1_settings.specs.declared.encoder.EncoderConfig.{EncoderConfig}
 use Rattle.av1_settings.specs.declared.status.EncoderStatus.{EncoderStatus}
-use Rattle.av1_settings.specs.declared.status.EncoderStatus.TheVariants.{Failure, OutOfMemory as NoMemory}
+use Rattle.av1_settings.specs.declared.status.EncoderStatus.TheVariants.{Failure}
 use Rattle.pass_data.specs.declared.error.PassDataError.{PassDataError}
 use Rattle.pass_data.specs.declared.error.PassDataError.TheVariants.{OutOfMemory as NoWindow}
 use Rattle.pass_data.specs.declared.rc_data.RcData.{RcData}
@@ -15,7 +15,7 @@ use Rattle.session_core.specs.declared.fault.SessionFault.{SessionFault}
 use Rattle.session_core.specs.declared.state.SessionState.{SessionState}
 use Rattle.session_core.specs.Contexts.{Session, status_of}
 use Rattle.session_core.specs.Moments.{Moment}
-use Rattle.session_core.specs.PassCalls.{IsBytesCall, IsCounted, IsTakeCall, LacksWindow, OrFails, fault_of, rate_in, with_rate}
+use Rattle.session_core.specs.PassCalls.{IsBytesCall, IsCounted, IsTakeCall, LacksWindow, fault_of, rate_in, with_rate}
 use Rattle.session_core.specs.PassStates.{at_state}
 use Rattle.session_core.specs.PassTurns.{IsPassData, PassMoment, after_taken, is_done, rate_of}
 use Rattle.session_core.specs.States.{moment_of, passes_at}

@@ -1,10 +1,9 @@
 -- What the loop over the calls of a session in two passes keeps, and what it comes to.
-use Rattle.std.proofs.Common.{◌≡◌, ◌⊎◌, inl, inr, ℕ, suc, ◌≤◌, Bool, true, false, ◌&&◌, cond, MatchBool, MatchOption, List, [], ◌∷◌, ◌++◌, map, length, take, drop, Option, Some, None, refl, sym, ap, ap₂, ◌∙◌, subst, subst₂, append-nil, append_assoc, arith}
+use Rattle.std.proofs.Common.{◌≡◌, ◌⊎◌, inl, inr, ℕ, ◌≤◌, Bool, true, false, ◌&&◌, cond, MatchBool, MatchOption, List, [], ◌∷◌, ◌++◌, map, length, take, drop, Option, Some, None, refl, sym, ap, ap₂, ◌∙◌, subst, subst₂, append-nil, arith}
 use Rattle.std.specs.List.{slice_get}
 use Rattle.std.proofs.Math.Seq.{take-append_seam}
 use Rattle.std.proofs.lemmas.List.{map-append}
 use Rattle.coding_base.specs.Faults.{Rose}
-use Rattle.coding_base.specs.Runs.{Runs, after_calls}
 use Rattle.coding_base.proofs.RunLemmas.{after-push, runs-length, runs-push, runs-same}
 use Rattle.av1_frame.specs.Planes.{fits}
 use Rattle.av1_settings.specs.declared.encoder.EncoderConfig.{EncoderConfig}
@@ -13,10 +12,8 @@ use Rattle.av1_settings.specs.declared.rate_control.RateControlConfig.{RateContr
 use Rattle.av1_settings.specs.declared.status.EncoderStatus.{EncoderStatus}
 use Rattle.av1_settings.specs.declared.status.EncoderStatus.TheVariants.{EnoughData, Encoded, FrameSizeMismatch, LimitReached, NeedMoreData}
 use Rattle.pass_data.specs.declared.error.PassDataError.{PassDataError}
-use Rattle.pyramid.specs.declared.command.Command.{Command}
 use Rattle.quantizers.specs.Tables.{Tables}
 use Rattle.session_log.specs.Passes.{Passes, packet_sent}
-use Rattle.session_log.specs.declared.entry.LogEntry.{LogEntry}
 use Rattle.session_core.specs.declared.call.Call.{Call}
 use Rattle.session_core.specs.declared.call.Call.TheVariants.{Send, Flush, Receive}
 use Rattle.session_core.specs.declared.fault.SessionFault.{SessionFault}
@@ -32,19 +29,17 @@ use Rattle.session_core.specs.declared.session.SessionError.TheVariants.{CoderFa
 use Rattle.session_core.specs.declared.state.SessionState.{SessionState}
 use Rattle.session_core.specs.declared.transcript.Decision.{Decision}
 use Rattle.session_core.specs.declared.transcript.Reply.{Reply}
-use Rattle.session_core.specs.declared.transcript.Reply.TheVariants.{Sent, Flushed, Packet as GivesPacket, Status}
-use Rattle.session_core.specs.declared.transcript.Transcript.{Transcript}
+use Rattle.session_core.specs.declared.transcript.Reply.TheVariants.{Sent, Packet as GivesPacket, Status}
 use Rattle.session_core.specs.declared.transcript.Turn.{Turn}
 use Rattle.session_core.specs.Answers.{IsStopped, error_of}
-use Rattle.session_core.specs.Moments.{Moment, is_complete, opening}
+use Rattle.session_core.specs.Moments.{Moment, is_complete}
 use Rattle.session_core.specs.PassSessions.{IsGiving, IsPassPlayed, IsPassSessionRun, IsRefusedAt, PassFailsAt}
-use Rattle.session_core.specs.PassStates.{FailsPass, IsPassCall, IsPassStep, IsRefusal, at_state}
-use Rattle.session_core.specs.PassTurns.{ArePassTurns, IsGoingOn, IsPassTurn, IsWaiting, PassMoment, after_answer, after_given, after_pass_turn, after_taken, answered_in, awaits_data, calls_answered, is_not_ready, pass_moment_after, pass_opening, turns_answered}
+use Rattle.session_core.specs.PassStates.{FailsPass, IsPassCall, IsPassStep, at_state}
+use Rattle.session_core.specs.PassTurns.{ArePassTurns, IsGoingOn, IsPassTurn, IsWaiting, PassMoment, after_answer, after_pass_turn, answered_in, awaits_data, calls_answered, is_not_ready, pass_moment_after, pass_opening, turns_answered}
 use Rattle.session_core.specs.Quantisers.{AreSelected, passes_behind}
-use Rattle.session_core.specs.Sessions.{IsPlayed}
 use Rattle.session_core.specs.States.{moment_of, passes_at, IsKept}
 use Rattle.session_core.specs.Told.{Heard, IsLater}
-use Rattle.session_core.specs.Turns.{CodesNext, IsNextPacket, IsTurn, OnlyReplies, has_enough, held_back, is_showing, needs_more_data, sent_reply}
+use Rattle.session_core.specs.Turns.{CodesNext, IsNextPacket, IsTurn, OnlyReplies, has_enough, held_back, is_showing, needs_more_data}
 use Rattle.session_core.proofs.Playing.{Playing, get-behind, grown, playing-opening, playing-played, playing-step, playing-stopped}
 use Rattle.session_core.proofs.Widen.{widen-turn}
 

@@ -1,5 +1,5 @@
 -- A receive that codes: what is tried, and the command for good behind it.
-use Rattle.std.proofs.Common.{◌≡◌, ℕ, ◌+◌, ◌*◌, ◌≤◌, ◌<◌, ◌^◌, Bool, true, false, not, cond, List, [], ◌∷◌, ◌++◌, map, filter, take, drop, length, int_lt, All, IfOk, OnOk, MatchBool, Result, Ok, Err, Some, None, ℤ, pos, refl, sym, ap, ap₂, ◌∙◌, subst, append-nil, append_assoc, add-zero, arith}
+use Rattle.std.proofs.Common.{◌≡◌, ℕ, ◌+◌, ◌*◌, ◌≤◌, ◌<◌, ◌^◌, Bool, true, false, not, cond, List, [], ◌∷◌, ◌++◌, map, filter, take, drop, length, All, IfOk, OnOk, MatchBool, Result, Ok, Err, Some, None, ℤ, pos, refl, sym, ap, ap₂, ◌∙◌, subst, append-nil, append_assoc, add-zero, arith}
 use Rattle.std.specs.List.{flat_map, slice_get}
 use Rattle.std.proofs.lemmas.Bool.{and_parts, cond-false}
 use Rattle.std.proofs.lemmas.List.{length-append}

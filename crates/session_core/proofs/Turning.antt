@@ -1,5 +1,5 @@
 -- A call of a session as one step.
-use Rattle.std.proofs.Common.{◌≡◌, Bool, true, false, cond, List, [], ◌++◌, length, IfOk, Result, Ok, Err, refl, sym, ap, ◌∙◌, append-nil}
+use Rattle.std.proofs.Common.{◌≡◌, Bool, true, false, cond, [], length, IfOk, Result, Ok, Err, refl}
 use Rattle.std.specs.List.{flat_map}
 use Rattle.av1_frame.specs.declared.frame.Frame.{Frame}
 use Rattle.av1_frame.specs.Planes.{fits}
@@ -7,7 +7,6 @@ use Rattle.av1_settings.specs.declared.encoder.EncoderConfig.{EncoderConfig}
 use Rattle.av1_settings.specs.declared.status.EncoderStatus.TheVariants.{EnoughData, FrameSizeMismatch}
 use Rattle.quantizers.specs.Tables.{Tables}
 use Rattle.session_log.specs.Passes.{Passes}
-use Rattle.session_log.specs.declared.entry.LogEntry.{LogEntry}
 use Rattle.session_log.specs.Selection.{reservoir_after}
 use Rattle.session_core.specs.declared.call.Call.{Call}
 use Rattle.session_core.specs.declared.call.Call.TheVariants.{Receive}

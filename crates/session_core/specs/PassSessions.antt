@@ -21,7 +21,7 @@ use Rattle.session_core.specs.declared.pass_transcript.PassTurn.{PassTurn}
 use Rattle.session_core.specs.declared.transcript.Decision.{Decision}
 use Rattle.session_core.specs.declared.transcript.Transcript.{Transcript}
 use Rattle.session_core.specs.Answers.{IsStopped}
-use Rattle.session_core.specs.PassTurns.{ArePassTurns, PassMoment, awaits_data, calls_answered, pass_moment_after, turns_answered}
+use Rattle.session_core.specs.PassTurns.{ArePassTurns, awaits_data, calls_answered, pass_moment_after, turns_answered}
 use Rattle.session_core.specs.Quantisers.{AreSelected}
 use Rattle.session_core.specs.Sessions.{IsPlayed}
 use Rattle.session_core.specs.Told.{Heard}

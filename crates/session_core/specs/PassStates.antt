@@ -1,12 +1,12 @@
 -- What one call of a session in two passes does to its state, and how it fails.
-use Rattle.std.specs.Prelude.{◌≡◌, ⊤, ℕ, false, MatchBool, List, None, Some}
+use Rattle.std.specs.Prelude.{◌≡◌, ℕ, false, MatchBool, List, None, Some}
 use Rattle.av1_settings.specs.declared.encoder.EncoderConfig.{EncoderConfig}
 use Rattle.pass_data.specs.declared.error.PassDataError.{PassDataError}
 use Rattle.quantizers.specs.Tables.{Tables}
 use Rattle.session_log.specs.Passes.{packet_sent}
 use Rattle.session_core.specs.declared.call.Call.{Call}
 use Rattle.session_core.specs.declared.fault.SessionFault.{SessionFault}
-use Rattle.session_core.specs.declared.fault.SessionFault.TheVariants.{Coder, OutOfMemory, PassData}
+use Rattle.session_core.specs.declared.fault.SessionFault.TheVariants.{PassData}
 use Rattle.session_core.specs.declared.pass_transcript.PassCall.{PassCall}
 use Rattle.session_core.specs.declared.pass_transcript.PassCall.TheVariants.{Call as Plain, Take, Give}
 use Rattle.session_core.specs.declared.pass_transcript.PassTurn.{PassTurn}

@@ -96,3 +96,6 @@ returns-clause-session g c =
     let all = subst (λ done. PassCarried enc tables control done c.loop-call.turns.items state before now) (all_done g c) c.loop-call.invariant.2 in
     pass-session enc tables control calls (record { turns = c.from_vec.result; decisions = c.from_vec-2.result }) state before now
     (subst (λ turns. PassCarried enc tables control calls turns state before now) (sym c.from_vec.ensures) all) c.from_vec-2.ensures
+
+pub returns-in-Err-push-clause-later : goal.returns-in-Err-push-clause-later
+returns-in-Err-push-clause-later g c = later-then _ _ _ c.loop-call.invariant.2.playing.later c.in-Ok-pass_turn.ensures.later

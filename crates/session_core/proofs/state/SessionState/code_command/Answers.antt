@@ -3,7 +3,7 @@ use Rattle.std.proofs.lemmas.List.{length-map}
 use Rattle.pyramid.specs.Known.{is_coding}
 use Rattle.pyramid.specs.Schedules.{IsSchedule}
 use Rattle.pyramid.specs.declared.schedule.Schedule.{Schedule}
-use Rattle.session_log.specs.Passes.{passes_after, passes_of}
+use Rattle.session_log.specs.Passes.{passes_after}
 use Rattle.session_log.specs.Keeps.{IsLog, Keeps, RateKept}
 use Rattle.session_log.specs.declared.entry.LogEntry.{LogEntry}
 use Rattle.session_core.specs.declared.state.SessionState.{SessionState}

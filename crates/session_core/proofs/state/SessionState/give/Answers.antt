@@ -1,4 +1,4 @@
-use Rattle.std.proofs.Common.{◌≡◌, ap}
+use Rattle.std.proofs.Common.{ap}
 use Rattle.session_log.specs.Passes.{Passes}
 use Rattle.session_core.specs.PassTurns.{PassMoment}
 use Rattle.session_core.specs.States.{moment_of}

@@ -2,7 +2,6 @@ use Rattle.std.proofs.Common.{◌≡◌, ◌+◌, ◌∷◌, [], ◌++◌, List,
 use Rattle.std.proofs.lemmas.Bool.{and_parts}
 use Rattle.std.proofs.lemmas.List.{length-map}
 use Rattle.pyramid.specs.Known.{is_coding}
-use Rattle.session_log.specs.Passes.{passes_of}
 use Rattle.session_log.specs.declared.entry.LogEntry.{LogEntry}
 use Rattle.session_core.specs.States.{moment_of, passes_at, waiting_of, IsRatedBehind, IsTried}
 use Rattle.session_core.specs.Quantisers.{passes_behind}
