@@ -1,8 +1,9 @@
 -- The script that a seed makes.
 use Rattle.std.specs.Prelude.{ℕ, pos, ◌+◌, ◌/◌, ◌%◌, ◌==◌, ◌&&◌, nat_le, Bool, List, [], ◌∷◌, ◌++◌, filter, map, replicate, None}
 use Rattle.std.specs.List.{enumerate_from}
-use Rattle.script_lines.specs.declared.line.Action.{Action}
 use Rattle.script_lines.specs.declared.line.Action.TheVariants.{Send, Flush, Receive}
+use Rattle.script_lines.specs.declared.line.ScriptCall.{ScriptCall}
+use Rattle.script_lines.specs.declared.line.ScriptCall.TheVariants.{Act}
 use Rattle.script_lines.specs.declared.script.Script.{Script}
 use Rattle.script_lines.specs.declared.setting.Setting.{Setting}
 use Rattle.script_lines.specs.declared.setting.Setting.TheVariants.{Size, KeyInterval, Lookahead, Bitrate}
@@ -27,8 +28,9 @@ byte_counts_of frames =
     map (λ frame. (frame.0, LEAST_BYTES + frame.1 / BYTES_DIVISOR % BYTES_RANGE)) frames
 
 -- all frames are sent, then a flush, then the receives
-abbrev pub calls_of : ℕ → ℕ → List Action
-calls_of frames receives = replicate frames Send ++ Flush ∷ [] ++ replicate receives Receive
+abbrev pub calls_of : ℕ → ℕ → List ScriptCall
+calls_of frames receives =
+    replicate frames (Act Send) ++ Act Flush ∷ [] ++ replicate receives (Act Receive)
 
 -- the script of a seed, with so many frames and receives
 unfoldable pub script_with : ℕ → ℕ → ℕ → Script

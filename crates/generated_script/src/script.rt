@@ -3,12 +3,13 @@ ghost use Rattle.std.specs.List.{enumerate_from};
 ghost use Rattle.av1_settings.specs.declared.level.LevelTables.{LevelTables};
 ghost use Rattle.av1_settings.specs.Checks.{session_refusal};
 ghost use Rattle.av1_settings.specs.Defaults.{default_rate_control};
-ghost use Rattle.script_lines.specs.Grammar.{config_of};
+ghost use Rattle.script_lines.specs.Grammar.{config_of, GivesNothing};
+ghost use Rattle.script_lines.specs.declared.line.ScriptCall.TheVariants.{Act};
 ghost use Rattle.generated_script.specs.Generated.{byte_counts_of, calls_of, cuts_of, generated, is_cut, script_with, the_settings};
 
 use crate::numbers::numbers_after;
 use coding_base::{OutOfMemory, Sequence};
-use script_lines::{Action, ActionList, Script, Setting, SettingList};
+use script_lines::{Action, Script, ScriptCall, ScriptCallList, Setting, SettingList};
 use std::alloc::Global;
 
 /// The frames that a generated script sends.
@@ -29,12 +30,13 @@ const BYTES_RANGE: u64 = 200;
 const LEAST_BYTES: u64 = 20;
 
 /// The script of a seed: frames of 64 by 64 with a bitrate of 60,000 bits a second, whose scene cuts and bytes follow from the
-/// seed's pseudorandom numbers; they are sent, then a flush, then receives. Its configuration is valid for samples of 8 bits,
-/// whatever the levels are.
+/// seed's pseudorandom numbers; they are sent, then a flush, then receives, and no pass data is given. Its configuration is valid
+/// for samples of 8 bits, whatever the levels are.
 pub fn generated_script(alloc: Global, seed: u64) -> Result<Script, OutOfMemory>
     ensures script { IfOk result (λ script. script ≡ generated seed) }
     ensures valid { IfOk result (λ script. (levels : LevelTables) →
         session_refusal 8 levels (config_of script default_rate_control) ≡ None) }
+    ensures gives_nothing { IfOk result (λ script. GivesNothing script) }
 {
     script_with(alloc, seed, FRAMES, RECEIVES)
 }
@@ -108,7 +110,7 @@ fn byte_counts(alloc: Global, numbers: &[u64]) -> Result<Sequence<(u64, u64)>, O
     Ok(counts)
 }
 
-fn calls(alloc: Global, frames: usize, receives: usize) -> Result<ActionList, OutOfMemory>
+fn calls(alloc: Global, frames: usize, receives: usize) -> Result<ScriptCallList, OutOfMemory>
     ensures { IfOk result (λ calls. calls ≡ calls_of frames receives) }
 {
     let mut calls = Sequence::new(alloc);
@@ -119,11 +121,11 @@ fn calls(alloc: Global, frames: usize, receives: usize) -> Result<ActionList, Ou
 }
 
 // Puts so many calls at the end.
-fn push_calls(calls: &mut ActionList, action: Action, count: usize) -> Result<(), OutOfMemory>
-    ensures { OnOk result (calls.new ≡ calls.old ++ replicate count action) }
+fn push_calls(calls: &mut ScriptCallList, action: Action, count: usize) -> Result<(), OutOfMemory>
+    ensures { OnOk result (calls.new ≡ calls.old ++ replicate count (Act action)) }
 {
     for _done in 0..count {
-        calls.push(action)?;
+        calls.push(ScriptCall::Act(action))?;
     }
     Ok(())
 }

@@ -1,6 +1,6 @@
 use crate::script::script_with;
 use crate::{FRAMES, RECEIVES, generated_script};
-use script_lines::parse;
+use script_lines::{Dialect, parse};
 use std::test::Fail;
 
 #[test]
@@ -8,7 +8,7 @@ fn a_short_script_is_that_of_its_lines(rt: HostRuntime) -> Result<(), Fail> {
     let text =
         b"size 64 64\nkeyint 12 60\nrdo 10\nbitrate 60000\ncut 2\ncut 4\nbytes 0 44\nbytes 1 145\n\
         bytes 2 160\nbytes 3 77\nbytes 4 203\nbytes 5 80\nsend 6\nflush\nreceive 9\n";
-    let read = parse(rt.alloc(), text)?;
+    let read = parse(rt.alloc(), Dialect::Run, text)?;
     let made = script_with(rt.alloc(), 197, 6, 9)?;
     assert_eq!(rt; made.settings.as_slice(), read.settings.as_slice());
     assert_eq!(rt; made.cuts.as_slice(), read.cuts.as_slice());

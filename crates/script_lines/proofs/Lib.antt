@@ -1,5 +1,10 @@
+pub mod Acts
 pub mod Configs
 pub mod Cuts
 pub mod Digits
+pub mod Giving
+pub mod HexDigits
+pub mod Jobs
 pub mod LineWords
+pub mod Lines
 pub mod Scripts

@@ -1,28 +1,78 @@
--- What the first of the lines that are left makes of a script.
-use Rattle.std.proofs.Common.{◌≡◌, ℕ, ◌+◌, ◌<◌, ◌≤◌, IfSome, Bool, true, false, cond, List, ◌∷◌, length, Option, Some, None, Result, refl, arith}
-use denote.Ref.{Bor}
-use Rattle.std.specs.Option.{option_copied}
+-- What the first of the lines that are left makes of a script, and what stays so from line to line.
+use Rattle.std.proofs.Common.{◌≡◌, ℕ, ◌+◌, ◌==◌, Bool, true, false, cond, List, [], ◌∷◌, length, Option, Some, None, option_and_then, Result, Ok, Err, refl, sym, subst, arith}
+use Rattle.std.specs.Option.{option_map_or}
+use Rattle.std.proofs.lemmas.Bool.Decides.{nat_tests}
+use Rattle.script_lines.specs.declared.dialect.Dialect.{Dialect}
 use Rattle.script_lines.specs.declared.line.Line.{Line}
 use Rattle.script_lines.specs.declared.script.Draft.{Draft}
 use Rattle.script_lines.specs.declared.script.Script.{Script}
-use Rattle.script_lines.specs.Grammar.{script_after, with_line}
-use Rattle.script_lines.specs.Lines.{key_of, line_of, parts}
+use Rattle.script_lines.specs.Dialects.{has_line}
+use Rattle.script_lines.specs.Grammar.{empty_draft, lacks_flush, script_after, script_of, with_line, with_text}
+use Rattle.script_lines.specs.Lines.{key_of, line_in, line_of, lines_of}
+
+pub next_line : (draft next : Draft) (n : ℕ) (text first rest : List ℕ) (whole : Result Script ℕ) (line : Line) →
+    lines_of text ≡ first ∷ lines_of rest → script_after draft (n + 1) (lines_of text) ≡ whole → line_in draft.dialect first ≡ Some line →
+    with_line draft (key_of first) line ≡ Some next → script_after next (n + 1 + 1) (lines_of rest) ≡ whole
+next_line draft next n text first rest whole line e h some follows = rw (e, some, follows) at h
+
+pub bad_line : (draft : Draft) (n : ℕ) (text first rest : List ℕ) (whole : Result Script ℕ) →
+    lines_of text ≡ first ∷ lines_of rest → script_after draft (n + 1) (lines_of text) ≡ whole → line_in draft.dialect first ≡ None →
+    whole ≡ Err (n + 1)
+bad_line draft n text first rest whole e h none = sym (rw (e, none) at h)
+
+pub misplaced_line : (draft : Draft) (n : ℕ) (text first rest : List ℕ) (whole : Result Script ℕ) (line : Line) →
+    lines_of text ≡ first ∷ lines_of rest → script_after draft (n + 1) (lines_of text) ≡ whole → line_in draft.dialect first ≡ Some line →
+    with_line draft (key_of first) line ≡ None → whole ≡ Err (n + 1)
+misplaced_line draft n text first rest whole line e h some none = sym (rw (e, some, none) at h)
+
+-- no line is left
+pub no_line : (draft : Draft) (n : ℕ) (rest : List ℕ) (whole : Result Script ℕ) → (length rest == 0) ≡ true →
+    script_after draft (n + 1) (lines_of rest) ≡ whole → whole ≡ cond (lacks_flush draft) (Err (n + 1)) (Ok draft.script)
+no_line draft n [] whole none h = sym h
+no_line draft n (byte ∷ rest) whole none h = absurd (grind (arith, nat_tests))
+
+-- ---- what each line keeps, and what it comes to at the end
+
+abbrev pub KeptByLines : (Draft → Type 0) → Type 0
+KeptByLines Q = (draft next : Draft) (word : List ℕ) (line : Line) → Q draft → has_line draft.dialect line ≡ true →
+    with_line draft word line ≡ Some next → Q next
 
 -- a choice that came out
-pub chosen : {A : Type 0} (b : Bool) (x t : A) → cond b (Some x) None ≡ Some t → (b ≡ true) × (x ≡ t)
-chosen true x t e = (refl, cc)
-chosen false x t e = cc
+pub chosen : (b : Bool) (made next : Draft) → cond b (Some made) None ≡ Some next → (b ≡ true) × (made ≡ next)
+chosen true made next e = (refl, cc)
+chosen false made next e = cc
 
--- what may be left of a text, counted
-abbrev pub left_count : Option (List ℕ) → ℕ
-left_count None = 0
-left_count (Some rest) = length rest + 1
+module _ (Q : Draft → Type 0) (R : Script → Type 0) (kept : KeptByLines Q)
+    (ending : (draft : Draft) → Q draft → lacks_flush draft ≡ false → R draft.script) where
+  tested : (draft next : Draft) (word : List ℕ) (line : Line) (b : Bool) → has_line draft.dialect line ≡ b → Q draft →
+      option_and_then (with_line draft word) (cond b (Some line) None) ≡ Some next → Q next
+  tested draft next word line false is q e = cc
+  tested draft next word line true is q e = kept draft next word line q is e
 
-pub next_line : (draft next : Draft) (n : ℕ) (lines first : List ℕ) (more : List (List ℕ)) (whole : Result Script ℕ) (line : Line) →
-    parts 10 lines ≡ first ∷ more → script_after draft (n + 1) (parts 10 lines) ≡ whole → line_of first ≡ Some line →
-    with_line draft (key_of first) line ≡ Some next → script_after next (n + 1 + 1) more ≡ whole
-next_line draft next n lines first more whole line e h some follows = rw (e, some, follows) at h
+  read : (draft next : Draft) (word : List ℕ) (line : Option Line) → Q draft →
+      option_and_then (with_line draft word) (option_and_then (λ line. cond (has_line draft.dialect line) (Some line) None) line) ≡ Some next →
+      Q next
+  read draft next word None q e = cc
+  read draft next word (Some line) q e = tested draft next word line (has_line draft.dialect line) refl q e
 
-pub fewer : (rest : Option (Bor (List ℕ))) (n : ℕ) → IfSome rest (λ r. length r.now < n) → left_count (option_copied rest) ≤ n
-fewer None n h = omega arith
-fewer (Some r) n h = omega arith
+  ended : (b : Bool) (n : ℕ) (draft : Draft) (script : Script) → lacks_flush draft ≡ b → Q draft →
+      cond b (Err n) (Ok draft.script) ≡ Ok script → R script
+  ended true n draft script is q e = cc
+  ended false n draft script is q e = let same : draft.script ≡ script = cc in subst R same (ending draft q is)
+
+  onward : (next : Option Draft) (n : ℕ) (script : Script) (rest : Draft → Result Script ℕ) → ((d : Draft) → next ≡ Some d → Q d) →
+      ((d : Draft) → Q d → rest d ≡ Ok script → R script) → option_map_or rest next (Err n) ≡ Ok script → R script
+  onward None n script rest made follows e = cc
+  onward (Some d) n script rest made follows e = follows d (made d refl) e
+
+  along : (draft : Draft) (n : ℕ) (lines : List (List ℕ)) (script : Script) → Q draft → script_after draft n lines ≡ Ok script → R script
+  along draft n [] script q e = ended (lacks_flush draft) n draft script refl q e
+  along draft n (text ∷ lines) script q e =
+      onward (with_text draft text) n script (λ next. script_after next (n + 1) lines)
+      (λ next made. read draft next (key_of text) (line_of text) q made)
+      (λ next holds rest. along next (n + 1) lines script holds rest) e
+
+  pub from_lines : (dialect : Dialect) (bytes : List ℕ) (script : Script) → Q (empty_draft dialect) → script_of dialect bytes ≡ Ok script →
+      R script
+  unfolding script_of
+  from_lines dialect bytes script q e = along (empty_draft dialect) 1 (lines_of bytes) script q e

@@ -1,7 +1,7 @@
--- The grammar of scripts: which lines may stand behind which, and what they make.
-use Rattle.std.specs.Prelude.{◌≡◌, ⊤, ℕ, ◌+◌, Bool, not, ◌==◌, ◌&&◌, nat_le, bytes_eq, if◌then◌else◌, List, [], ◌∷◌, ◌++◌, length, replicate, take, Option, None, Some, option_and_then, Result, Ok, Err}
+-- The grammar of scripts, by their dialect: which lines may stand behind which, and what they make.
+use Rattle.std.specs.Prelude.{◌≡◌, ⊤, ℕ, ◌+◌, Bool, not, true, false, ◌==◌, ◌&&◌, nat_le, bytes_eq, slice_get, IsTrue, if◌then◌else◌, List, [], ◌∷◌, ◌++◌, ◌-◌, ◌<◌, length, replicate, take, Option, None, Some, option_and_then, Result, Ok, Err}
 use Rattle.std.specs.Option.{option_map_or}
-use Rattle.std.specs.List.{list_any}
+use Rattle.std.specs.List.{list_all, list_any}
 use Rattle.pass_stats.specs.Summary.{Summary, first_met}
 use Rattle.pass_stats.specs.declared.error.Why.{Why}
 use Rattle.pass_stats.specs.declared.summary.RCSummary.{RCSummary}
@@ -10,31 +10,50 @@ use Rattle.av1_settings.specs.declared.rate_control.RateControlConfig.{RateContr
 use Rattle.av1_settings.specs.Defaults.{default_config, default_rate_control, second_pass}
 use Rattle.script_lines.specs.declared.answer.Answer.{Answer}
 use Rattle.script_lines.specs.declared.answer.Answer.TheVariants.{Cut, ByteCount, Fault, Scale}
+use Rattle.script_lines.specs.declared.dialect.Dialect.{Dialect}
+use Rattle.script_lines.specs.declared.line.Action.TheVariants.{Flush, Send}
 use Rattle.script_lines.specs.declared.line.Line.{Line}
-use Rattle.script_lines.specs.declared.line.Line.TheVariants.{Blank, Set, Answers, Prints, Summary as SummaryLine, Calls}
+use Rattle.script_lines.specs.declared.line.Line.TheVariants.{Blank, Set, Answers, Prints, Summary as SummaryLine, Calls, Gives}
+use Rattle.script_lines.specs.declared.line.ScriptCall.{ScriptCall}
+use Rattle.script_lines.specs.declared.line.ScriptCall.TheVariants.{Act, Give}
 use Rattle.script_lines.specs.declared.script.Draft.{Draft}
 use Rattle.script_lines.specs.declared.script.Script.{Script}
 use Rattle.script_lines.specs.declared.script.ScriptError.{ScriptError}
 use Rattle.script_lines.specs.declared.script.ScriptError.TheVariants.{BadLine, OutOfMemory}
 use Rattle.script_lines.specs.declared.script.TheConstants.{MOST_CALLS}
-use Rattle.script_lines.specs.Lines.{key_of, line_of, parts}
+use Rattle.script_lines.specs.Dialects.{ends_with_flush, is_still}
+use Rattle.script_lines.specs.Lines.{key_of, line_in, lines_of}
 use Rattle.script_lines.specs.SettingLines.{encoder_of}
 
 -- a script without lines
-abbrev pub empty_draft : Draft
-empty_draft = record { script = record { settings = []; summary = None; cuts = []; byte_counts = []; faults = []; scales = []; prints = []; calls = [] }; words = [] }
+abbrev pub empty_draft : Dialect → Draft
+empty_draft dialect = record { dialect = dialect; script = record { settings = []; summary = None; cuts = []; byte_counts = []; faults = []; scales = []; prints = []; calls = [] }; words = [] }
 
 -- a setting stands before the calls, and its word once; so does the summary
 abbrev pub may_set : Draft → List ℕ → Bool
 may_set draft word = length draft.script.calls == 0 && not (list_any (λ used. bytes_eq used word) draft.words)
 
--- the calls are 100,000 at most
+abbrev pub is_flush : ScriptCall → Bool
+is_flush (Act Flush) = true
+is_flush call = false
+
+-- the last of the calls is a flush
+abbrev pub is_flushed : List ScriptCall → Bool
+is_flushed calls = option_map_or is_flush (slice_get calls (length calls - 1)) false
+
+-- the calls are 100,000 at most, and none stands behind the flush that ends them
 abbrev pub may_call : Draft → ℕ → Bool
-may_call draft count = nat_le (length draft.script.calls + count) MOST_CALLS
+may_call draft count =
+    nat_le (length draft.script.calls + count) MOST_CALLS
+    && not (ends_with_flush draft.dialect && is_flushed draft.script.calls)
+
+-- the flush that ends the calls is missing
+abbrev pub lacks_flush : Draft → Bool
+lacks_flush draft = ends_with_flush draft.dialect && not (is_flushed draft.script.calls)
 
 -- a draft with this script, and one more word of its setting lines
 abbrev pub after_word : Draft → List ℕ → Script → Draft
-after_word draft word script = record { script = script; words = draft.words ++ word ∷ [] }
+after_word draft word script = record draft { script = script; words = draft.words ++ word ∷ [] }
 
 -- a script with one more answer
 abbrev pub with_answer : Script → Answer → Script
@@ -70,27 +89,51 @@ with_line draft word (SummaryLine bytes) =
 with_line draft word (Calls action count) =
     let script = draft.script in
     if may_call draft count
-    then Some (record draft { script = record script { calls = script.calls ++ replicate count action } })
+    then Some (record draft { script = record script { calls = script.calls ++ replicate count (Act action) } })
+    else None
+with_line draft word (Gives bytes) =
+    let script = draft.script in
+    if may_call draft 1
+    then Some (record draft { script = record script { calls = script.calls ++ Give bytes ∷ [] } })
     else None
 
 -- the same of the line's text
 abbrev pub with_text : Draft → List ℕ → Option Draft
-with_text draft text = option_and_then (with_line draft (key_of text)) (line_of text)
+with_text draft text = option_and_then (with_line draft (key_of text)) (line_in draft.dialect text)
 
--- what the lines from this number on make of a script; else the number of the first that is no line, or can't stand there
+-- what the lines from this number on make of a script; else the number of the first that is no line, or can't stand there, or
+-- that of the line behind them, where the flush is missing
 abbrev pub script_after : Draft → ℕ → List (List ℕ) → Result Script ℕ
-script_after draft number [] = Ok draft.script
+script_after draft number [] = if lacks_flush draft then Err number else Ok draft.script
 script_after draft number (text ∷ lines) =
     option_map_or (λ next. script_after next (number + 1) lines) (with_text draft text) (Err number)
 
 -- the script that bytes are, or the number of the first line, from 1, that isn't in the grammar
-unfoldable pub script_of : List ℕ → Result Script ℕ
-script_of bytes = script_after empty_draft 1 (parts 10 bytes)
+unfoldable pub script_of : Dialect → List ℕ → Result Script ℕ
+script_of dialect bytes = script_after (empty_draft dialect) 1 (lines_of bytes)
 
 -- what an answer to bytes means that are no script
 abbrev pub IsScriptError : Result Script ℕ → ScriptError → Type 0
 IsScriptError script (BadLine line) = script ≡ Err line
 IsScriptError script OutOfMemory = ⊤
+
+-- ---- what the scripts of a dialect are
+
+-- a call that any session has
+abbrev pub is_act : ScriptCall → Bool
+is_act (Act action) = true
+is_act (Give bytes) = false
+
+-- no call of a script gives pass data
+abbrev pub GivesNothing : Script → Type 0
+GivesNothing script = IsTrue (list_all is_act script.calls)
+
+-- where GOPs are coded side by side: plain frames, then a flush, and no picture is still
+pub record IsOfGops (script : Script) : Type 0 where
+  pub frames : ℕ
+  pub calls : script.calls ≡ replicate frames (Act Send) ++ Act Flush ∷ []
+  pub few : frames < MOST_CALLS
+  pub moving : list_any is_still script.settings ≡ false
 
 -- ---- the configuration of a script
 

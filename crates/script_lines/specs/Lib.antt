@@ -1,5 +1,6 @@
 pub mod AnswerLines
 pub mod DecimalNumbers
+pub mod Dialects
 pub mod Grammar
 pub mod HexBytes
 pub mod Lines

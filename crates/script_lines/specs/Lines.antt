@@ -4,19 +4,31 @@ use Rattle.std.specs.List.{slice_split}
 use Rattle.std.specs.Option.{option_map, option_or}
 use Rattle.script_lines.specs.declared.line.Action.{Action}
 use Rattle.script_lines.specs.declared.line.Action.TheVariants.{Send, SendKey, SendOpaque, SendSize, Flush, Receive}
+use Rattle.script_lines.specs.declared.dialect.Dialect.{Dialect}
 use Rattle.script_lines.specs.declared.line.TheConstants.{MOST_SIDE}
 use Rattle.script_lines.specs.declared.line.Line.{Line}
-use Rattle.script_lines.specs.declared.line.Line.TheVariants.{Blank, Set, Answers, Prints, Summary, Calls}
+use Rattle.script_lines.specs.declared.line.Line.TheVariants.{Blank, Set, Answers, Prints, Summary, Calls, Gives}
 use Rattle.script_lines.specs.AnswerLines.{answer_of_one, answer_of_two, print_of, scale_of}
 use Rattle.script_lines.specs.DecimalNumbers.{number_of}
-use Rattle.script_lines.specs.HexBytes.{bytes_of}
+use Rattle.script_lines.specs.Dialects.{has_line}
+use Rattle.script_lines.specs.HexBytes.{pass_bytes_of, summary_bytes_of}
 use Rattle.script_lines.specs.SettingLines.{setting_of_none, setting_of_one, setting_of_two}
 
 -- what stands before, between and behind such bytes
 abbrev pub parts : ℕ → List ℕ → List (List ℕ)
 parts byte text = slice_split (λ b. b == byte) text
 
--- the same of what may be left of a text
+-- parts without the last one, if that is empty
+abbrev pub without_empty_end : List (List ℕ) → List (List ℕ)
+without_empty_end [] = []
+without_empty_end ([] ∷ []) = []
+without_empty_end (part ∷ parts) = part ∷ without_empty_end parts
+
+-- the lines of a text: a line feed ends each, and the last may lack it
+abbrev pub lines_of : List ℕ → List (List ℕ)
+lines_of text = without_empty_end (parts 10 text)
+
+-- the parts of what may be left of a text
 abbrev pub parts_left : ℕ → Option (List ℕ) → List (List ℕ)
 parts_left byte None = []
 parts_left byte (Some rest) = parts byte rest
@@ -74,7 +86,8 @@ line_of_none word = option_or (option_map Set (setting_of_none word)) (calls_of_
 -- what a word and what stands behind it ask for
 abbrev pub line_of_one : List ℕ → List ℕ → Option Line
 line_of_one word text =
-    if bytes_eq word (codes "summary") then option_map Summary (bytes_of text)
+    if bytes_eq word (codes "summary") then option_map Summary (summary_bytes_of text)
+    else if bytes_eq word (codes "pass") then option_map Gives (pass_bytes_of text)
     else if bytes_eq word (codes "print") then option_map Prints (print_of text)
     else option_or (option_map Set (setting_of_one word text))
     (option_or (option_map Answers (answer_of_one word text)) (calls_of_one word text))
@@ -102,3 +115,8 @@ line_of_words words = None
 unfoldable pub line_of : List ℕ → Option Line
 line_of [] = Some Blank
 line_of (byte ∷ rest) = if byte == 35 then Some Blank else line_of_words (parts 32 (byte ∷ rest))
+
+-- the same where a dialect has such a line
+abbrev pub line_in : Dialect → List ℕ → Option Line
+line_in dialect text =
+    option_and_then (λ line. if has_line dialect line then Some line else None) (line_of text)

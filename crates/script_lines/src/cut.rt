@@ -1,9 +1,10 @@
-ghost use Rattle.std.specs.Prelude.{◌≡◌, ◌∷◌, ◌==◌, ◌<◌, length, option_copied, position, IfSome};
+ghost use Rattle.std.specs.Prelude.{◌≡◌, ◌∷◌, ◌==◌, ◌<◌, length, option_copied, position, None, IfSome};
 ghost use Rattle.script_lines.specs.Lines.{parts, parts_left};
 
 /// What stands before the first such byte, and what stands behind it, if it is there.
 pub fn cut(text: &[u8], byte: u8) -> (&[u8], Option<&[u8]>)
     ensures parts { parts byte text.now ≡ result.0.now ∷ parts_left byte (option_copied result.1) }
+    ensures whole { result.1 ≡ None → result.0.now ≡ text.now }
     ensures shorter { IfSome result.1 (λ rest. length rest.now < length text.now) }
 {
     match place(text, byte) {

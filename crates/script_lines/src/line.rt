@@ -1,16 +1,18 @@
 ghost use Rattle.std.specs.Prelude.{◌≡◌, IfOk};
-ghost use Rattle.script_lines.specs.Lines.{calls_of_none, calls_of_one, calls_of_two, is_side, key_of, line_of, line_of_none, line_of_numbers, line_of_one, line_of_two, line_of_words, parts, some_calls, word_of};
+ghost use Rattle.script_lines.specs.Lines.{calls_of_none, calls_of_one, calls_of_two, is_side, key_of, line_in, line_of, line_of_none, line_of_numbers, line_of_one, line_of_two, line_of_words, parts, some_calls, word_of};
 
 use crate::Setting;
 use crate::answer::{Answer, Print};
 use crate::cut::cut;
-use crate::hex_bytes::hex_bytes;
+use crate::dialect::Dialect;
+use crate::hex_bytes::{pass_bytes, summary_bytes};
 use crate::number::number;
 use crate::setting::is;
+use arrayvec::ArrayVec;
 use coding_base::{Bytes, OutOfMemory, Sequence};
 use std::alloc::Global;
 
-/// A call, as a script asks for it.
+/// A call of any session, as a script asks for it.
 #[derive(Clone, Copy, Debug, PartialEq, Eq)]
 pub enum Action {
     /// Send the plain picture.
@@ -35,8 +37,17 @@ pub enum Action {
 // The most width or height of a frame of another size.
 const MOST_SIDE: u64 = 64;
 
+/// A call, as a script asks for it.
+#[derive(Debug, Drop, PartialEq, Eq)]
+pub enum ScriptCall {
+    /// One of any session.
+    Act(Action),
+    /// Give these bytes of pass data, 1 to 68: only in a second pass.
+    Give(ArrayVec<u8, 68>),
+}
+
 /// Calls, as a script asks for them.
-pub type ActionList = Sequence<Action>;
+pub type ScriptCallList = Sequence<ScriptCall>;
 
 /// What a line of a script asks for.
 #[derive(Debug, Drop)]
@@ -58,11 +69,23 @@ pub enum Line {
         /// How many.
         count: u64,
     },
+    /// A call that gives this pass data.
+    Gives(ArrayVec<u8, 68>),
 }
 
-/// What a line asks for, where there is such a line.
+/// What a line asks for, where a dialect has such a line.
+pub fn read_line(alloc: Global, dialect: Dialect, text: &[u8]) -> Result<Option<Line>, OutOfMemory>
+    ensures { IfOk result (λ line. line ≡ line_in dialect text.now) }
+{
+    let Some(line) = any_line(alloc, text)? else {
+        return Ok(None);
+    };
+    Ok(if dialect.has(&line) { Some(line) } else { None })
+}
+
+// What a line asks for in any dialect.
 #[tactic(auto, unfolding(crate::specs::Lines::line_of))]
-pub fn read_line(alloc: Global, text: &[u8]) -> Result<Option<Line>, OutOfMemory>
+fn any_line(alloc: Global, text: &[u8]) -> Result<Option<Line>, OutOfMemory>
     ensures { IfOk result (λ line. line ≡ line_of text.now) }
 {
     match text {
@@ -120,8 +143,14 @@ fn line_of_one(alloc: Global, word: &[u8], text: &[u8]) -> Result<Option<Line>, 
     ensures { IfOk result (λ line. line ≡ line_of_one word.now text.now) }
 {
     if is(word, "summary") {
-        return match hex_bytes(alloc, text)? {
+        return match summary_bytes(alloc, text)? {
             Some(bytes) => Ok(Some(Line::Summary(bytes))),
+            None => Ok(None),
+        };
+    }
+    if is(word, "pass") {
+        return match pass_bytes(alloc, text)? {
+            Some(bytes) => Ok(Some(Line::Gives(bytes))),
             None => Ok(None),
         };
     }

@@ -1,16 +1,20 @@
-ghost use Rattle.std.specs.Prelude.{◌≡◌, ◌≢◌, ◌↔◌, ℤ, [], ◌+◌, Ok, Err, bytes_eq, nat_le, None, Some, IfOk, MatchResult, if◌then◌else◌};
+ghost use Rattle.std.specs.Prelude.{◌≡◌, ◌≢◌, ◌↔◌, ◌<◌, ◌∷◌, ◌&&◌, not, length, ℤ, [], ◌+◌, Ok, Err, bytes_eq, nat_le, None, Some, IfOk, MatchResult, if◌then◌else◌};
 ghost use Rattle.std.specs.List.{list_any};
 ghost use Rattle.pass_stats.specs.declared.error.Why.{Why};
 ghost use Rattle.pass_stats.specs.declared.error.RateControlError.TheVariants.{CorruptedSummary, InvalidVersion};
 ghost use Rattle.av1_settings.specs.declared.config.Config.{Config};
-ghost use Rattle.script_lines.specs.Grammar.{empty_draft, may_set, with_line, script_of, summary_refusal, IsConfig, IsScriptError};
+ghost use Rattle.script_lines.specs.Grammar.{empty_draft, is_flushed, lacks_flush, may_call, may_set, with_line, GivesNothing, IsOfGops, script_of, summary_refusal, IsConfig, IsScriptError};
 ghost use Rattle.script_lines.specs.SettingLines.{encoder_of, preset_of};
-ghost use Rattle.script_lines.specs.declared.line.Line.TheVariants.{Set, Answers, Prints, Summary, Calls};
+ghost use Rattle.script_lines.specs.declared.line.Line.TheVariants.{Set, Answers, Prints, Summary, Calls, Gives};
+ghost use Rattle.script_lines.specs.declared.dialect.Dialect.TheVariants.{Gops, SecondPass};
+ghost use Rattle.script_lines.specs.Lines.{lines_of};
 
 use crate::answer::{Answer, Print};
 use crate::cut::cut;
-use crate::line::{Action, ActionList, Line, key, read_line};
+use crate::dialect::Dialect;
+use crate::line::{Action, Line, ScriptCall, ScriptCallList, key, read_line};
 use crate::setting::Setting;
+use arrayvec::ArrayVec;
 use av1_settings::{Config, EncoderConfig, RateControlConfig};
 use coding_base::{Bytes, OutOfMemory, Sequence};
 use pass_stats::{RateControlError, parse_summary};
@@ -38,13 +42,14 @@ pub struct Script {
     /// What the report has besides.
     pub prints: Sequence<Print>,
     /// The calls, in order.
-    pub calls: ActionList,
+    pub calls: ScriptCallList,
 }
 
 /// Why bytes are no script.
 #[derive(Clone, Copy, Debug, PartialEq, Eq, Error)]
 pub enum ScriptError {
-    /// The first line that can't stand where it stands, by its number from 1.
+    /// The first line that can't stand where it stands, or the one behind the last where a line is missing, by its number
+    /// from 1.
     #[error("line {0} is no script line")]
     BadLine(u64),
     /// Memory ran out.
@@ -111,15 +116,17 @@ impl Script {
 // A script as far as it was read, and the words of its setting lines.
 #[derive(Drop)]
 struct Draft {
+    dialect: Dialect,
     script: Script,
     words: Sequence<Bytes>,
 }
 
 impl Draft {
-    fn new(alloc: Global) -> Draft
-        ensures { result ≡ empty_draft }
+    fn new(alloc: Global, dialect: Dialect) -> Draft
+        ensures { result ≡ empty_draft dialect }
     {
         Draft {
+            dialect,
             script: Script {
                 settings: Sequence::new(alloc),
                 summary: None,
@@ -146,6 +153,7 @@ impl Draft {
             Line::Prints(print) => self.add_print(alloc, word, print),
             Line::Summary(bytes) => self.add_summary(alloc, word, bytes),
             Line::Calls { action, count } => self.add_calls(action, count),
+            Line::Gives(bytes) => self.add_give(bytes),
         }
     }
 
@@ -227,38 +235,78 @@ impl Draft {
         ensures { IfOk result (λ good.
             with_line self.old [] (Calls action count) ≡ (if good then Some self.new else None)) }
     {
-        if !may_call(self.script.calls.len(), count) {
+        if !self.may_call(count) {
             return Ok(false);
         }
         for _done in 0..count {
-            self.script.calls.push(action)?;
+            self.script.calls.push(ScriptCall::Act(action))?;
         }
         Ok(true)
     }
+
+    fn add_give(&mut self, bytes: ArrayVec<u8, 68>) -> Result<bool, OutOfMemory>
+        ensures { IfOk result (λ good.
+            with_line self.old [] (Gives bytes) ≡ (if good then Some self.new else None)) }
+    {
+        if !self.may_call(1) {
+            return Ok(false);
+        }
+        self.script.calls.push(ScriptCall::Give(bytes))?;
+        Ok(true)
+    }
+
+    // Whether so many calls may stand here.
+    fn may_call(&self, count: u64) -> bool
+        ensures { result ≡ may_call self.now count }
+    {
+        has_room(self.script.calls.len(), count)
+            && !(self.dialect.ends_with_flush() && self.is_flushed())
+    }
+
+    // Whether the flush that ends the calls is missing.
+    fn lacks_flush(&self) -> bool
+        ensures { result ≡ lacks_flush self.now }
+    {
+        self.dialect.ends_with_flush() && !self.is_flushed()
+    }
+
+    fn is_flushed(&self) -> bool
+        ensures { result ≡ is_flushed self.now.script.calls }
+    {
+        match self.script.calls.as_slice().last() {
+            Some(ScriptCall::Act(action)) => matches!(action, Action::Flush),
+            Some(ScriptCall::Give(_)) | None => false,
+        }
+    }
 }
 
-// Whether so many calls may stand behind those that are there.
-fn may_call(before: usize, count: u64) -> bool
+// Whether there is room for so many calls behind those that are there.
+fn has_room(before: usize, count: u64) -> bool
     ensures { result ≡ nat_le (before + count) MOST_CALLS }
 {
     before <= MOST_CALLS && count <= (MOST_CALLS - before) as u64
 }
 
-/// Reads a script.
+/// Reads a script of a dialect.
 ///
-/// `BadLine` names the first line that is no script line, or can't stand where it stands; `OutOfMemory` is answered where
+/// # Errors
+///
+/// `BadLine` names the first line that is no script line of the dialect, or can't stand where it stands; where the flush that
+/// ends a script is missing, and no line before is bad, it names the line behind the last one. `OutOfMemory` is answered where
 /// memory ran out.
-pub fn parse(alloc: Global, text: &[u8]) -> Result<Script, ScriptError>
-    ensures script { MatchResult result (λ script. script_of text.now ≡ Ok script)
-        (λ e. IsScriptError (script_of text.now) e) }
+pub fn parse(alloc: Global, dialect: Dialect, text: &[u8]) -> Result<Script, ScriptError>
+    ensures script { MatchResult result (λ script. script_of dialect text.now ≡ Ok script)
+        (λ e. IsScriptError (script_of dialect text.now) e) }
+    ensures gives_nothing { dialect ≢ SecondPass → IfOk result (λ script. GivesNothing script) }
+    ensures of_gops { dialect ≡ Gops → IfOk result (λ script. IsOfGops script) }
 {
-    let mut draft = Draft::new(alloc);
-    let mut rest = Some(text);
+    let mut draft = Draft::new(alloc, dialect);
+    let mut rest = text;
     let mut number = 0;
-    while let Some(lines) = rest {
-        let (first, more) = cut(lines, b'\n');
+    while !rest.is_empty() {
+        let (first, more) = first_line(rest);
         number += 1;
-        let Ok(read) = read_line(alloc, first) else {
+        let Ok(read) = read_line(alloc, draft.dialect, first) else {
             return Err(ScriptError::OutOfMemory);
         };
         let Some(line) = read else {
@@ -272,5 +320,21 @@ pub fn parse(alloc: Global, text: &[u8]) -> Result<Script, ScriptError>
         }
         rest = more;
     }
+    if draft.lacks_flush() {
+        return Err(ScriptError::BadLine(number + 1));
+    }
     Ok(draft.script)
+}
+
+// The first line of a text that isn't empty, and what stands behind it.
+fn first_line(text: &[u8]) -> (&[u8], &[u8])
+    requires { 0 < length text.now }
+    ensures lines { lines_of text.now ≡ result.0.now ∷ lines_of result.1.now }
+    ensures shorter { length result.1.now < length text.now }
+{
+    let (line, rest) = cut(text, b'\n');
+    match rest {
+        Some(rest) => (line, rest),
+        None => (line, &[]),
+    }
 }

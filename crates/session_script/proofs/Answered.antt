@@ -1,5 +1,5 @@
 -- What a run comes to, by its cases.
-use Rattle.std.proofs.Common.{◌≡◌, ◌≢◌, ℕ, ◌+◌, ◌<◌, ◌≤◌, ◌↔◌, ◌⊎◌, inl, inr, true, ltb, IfSome, List, [], ◌∷◌, length, min, Option, None, Some, is_some, Result, Ok, Err, refl, sym, subst, ◌∙◌, arith}
+use Rattle.std.proofs.Common.{◌≡◌, ◌≢◌, ℕ, ◌+◌, ◌<◌, ◌≤◌, ◌↔◌, ◌⊎◌, inl, inr, true, false, IsTrue, ltb, IfSome, MatchOption, List, [], ◌∷◌, length, min, Option, None, Some, is_some, option_and_then, Result, Ok, Err, refl, sym, subst, ◌∙◌, arith}
 use Rattle.std.specs.Prelude.{String}
 use Rattle.std.specs.declared.alloc.Global.{Global}
 use Rattle.std.specs.Option.{option_map}
@@ -12,19 +12,24 @@ use Rattle.av1_settings.specs.declared.rate_control.RateControlConfig.{RateContr
 use Rattle.av1_settings.specs.Invalid.{number_of}
 use Rattle.byte_streams.specs.Streams.{IsTooLong, ReadsAll, TakesAtMost}
 use Rattle.script_lines.specs.declared.script.Script.{Script}
-use Rattle.script_lines.specs.Grammar.{IsRateControl, script_of}
+use Rattle.script_lines.specs.Grammar.{IsRateControl, summary_refusal}
+use Rattle.pass_stats.specs.Summary.{first_met}
+use Rattle.pass_stats.specs.declared.error.Why.{Why}
 use Rattle.pass_stats.proofs.SummaryFacts.{first_met-Summary}
-use Rattle.session_core.specs.declared.transcript.Transcript.{Transcript}
 use Rattle.session_core.specs.Told.{FailsBehind, Heard}
-use Rattle.session_script.specs.declared.outcome.Layout.{Layout}
+use Rattle.session_script.specs.declared.outcome.Account.{Account}
+use Rattle.session_script.specs.declared.outcome.Account.TheVariants.{Turns, Summary, Passes}
 use Rattle.session_script.specs.declared.outcome.Outcome.{Outcome}
 use Rattle.session_script.specs.declared.outcome.Outcome.TheVariants.{WrongWords, Unreadable, TooLong, BadLine, RefusedPassData, Refused, CoderFault, Done, Unwritten, OutOfMemory}
 use Rattle.session_script.specs.declared.run.TheConstants.{MOST_BYTES}
-use Rattle.session_script.specs.Carried.{HasRefusedSummary, IsCarriedOut, IsRefused, IsStopped, IsValidScript, NamesFault, script_refusal, status_for_script}
-use Rattle.session_script.specs.Outcomes.{HasFault, IsRun, IsScriptOutcome, IsSourceOutcome, IsStatus, IsTaskOutcome, IsTold, IsToldOutcome, IsWritten, Span, cut_short, status_for, status_of}
+use Rattle.session_script.specs.Carried.{IsValidScript}
+use Rattle.session_script.specs.Causes.{GivesData, HasRefusedPacket, HasRefusedSummary, IsCarriedOut, IsDue, IsRefused, IsStopped, NamesFault, refusal_for, script_for, status_behind}
+use Rattle.session_script.specs.Passes.{IsValidInPasses}
+use Rattle.session_script.specs.Outcomes.{EndsEarly, HasFault, IsDueFor, IsRun, IsScriptOutcome, IsSourceOutcome, IsStatus, IsTaskOutcome, IsTold, IsToldOutcome, IsWritten, Span, cut_short, status_of}
 use Rattle.session_script.specs.declared.words.Task.{Task}
-use Rattle.session_script.specs.declared.words.Task.TheVariants.{Run, Generate}
-use Rattle.session_script.specs.Words.{task_of}
+use Rattle.session_script.specs.declared.words.Task.TheVariants.{Run, FirstPass, SecondPass, Generate}
+use Rattle.session_script.specs.Words.{reads_script, task_of}
+use Rattle.session_script.proofs.Giving.{gives}
 
 -- ---- a source that was read
 
@@ -33,40 +38,48 @@ reads_some : (limit : ℕ) (left after : Option (List ℕ)) (bytes : List ℕ) (
 reads_some limit None after bytes P read holds = tt
 reads_some limit (Some all) after bytes P read holds = (read.0, read.1, subst P (sym read.2) holds)
 
-pub read_outcome : (source : Span) (heard : Heard ℕ) (bytes : List ℕ) (outcome : Outcome) →
+pub read_outcome : (source : Span) (heard : Heard ℕ) (task : Task) (bytes : List ℕ) (outcome : Outcome) →
     ReadsAll MOST_BYTES source.known source.known_after (λ all. all ≡ bytes) →
-    IsScriptOutcome heard (script_of bytes) outcome → IsSourceOutcome source heard outcome
-read_outcome source heard bytes WrongWords read h = h
-read_outcome source heard bytes (Unwritten t layout) read h = h
-read_outcome source heard bytes Unreadable read h = absurd h
-read_outcome source heard bytes TooLong read h = absurd h
-read_outcome source heard bytes OutOfMemory read h = tt
-read_outcome source heard bytes outcome read h =
+    IsScriptOutcome heard task (script_for task bytes) outcome → IsSourceOutcome source heard task outcome
+read_outcome source heard task bytes WrongWords read h = h
+read_outcome source heard task bytes (Unwritten account) read h = h
+read_outcome source heard task bytes Unreadable read h = absurd h
+read_outcome source heard task bytes TooLong read h = absurd h
+read_outcome source heard task bytes OutOfMemory read h = tt
+read_outcome source heard task bytes outcome read h =
     reads_some MOST_BYTES source.known source.known_after bytes
-    (λ all. IsScriptOutcome heard (script_of all) outcome) read h
+    (λ all. IsScriptOutcome heard task (script_for task all) outcome) read h
 
 -- ---- causes
 
 cause_same : (source : Span) (heard : Heard ℕ) (task : Task) (outcome : Outcome) →
     IsTaskOutcome source heard task outcome → IsToldOutcome source heard task outcome
-cause_same source heard Run (Unwritten t layout) h = absurd h
-cause_same source heard (Generate seed) (Unwritten t layout) h = absurd h.0
+cause_same source heard Run (Unwritten account) h = absurd h
+cause_same source heard FirstPass (Unwritten account) h = absurd h
+cause_same source heard SecondPass (Unwritten account) h = absurd h
+cause_same source heard (Generate seed) (Unwritten account) h = absurd h.0
 cause_same source heard task outcome h = h
 
 cause_cut : (source : Span) (heard : Heard ℕ) (task : Task) (outcome : Outcome) →
     IsTaskOutcome source heard task outcome → IsToldOutcome source heard task (cut_short outcome)
-cause_cut source heard Run (Unwritten t layout) h = absurd h
-cause_cut source heard (Generate seed) (Unwritten t layout) h = absurd h.0
+cause_cut source heard Run (Unwritten account) h = absurd h
+cause_cut source heard FirstPass (Unwritten account) h = absurd h
+cause_cut source heard SecondPass (Unwritten account) h = absurd h
+cause_cut source heard (Generate seed) (Unwritten account) h = absurd h.0
 cause_cut source heard task outcome h = h
 
 cause_none : (source : Span) (heard : Heard ℕ) (task : Task) (outcome : Outcome) →
     IsTaskOutcome source heard task outcome → IsTaskOutcome source heard task OutOfMemory
-cause_none source heard Run outcome h = tt
 cause_none source heard (Generate seed) outcome h = (tt, h.1)
+cause_none source heard Run outcome h = tt
+cause_none source heard FirstPass outcome h = tt
+cause_none source heard SecondPass outcome h = tt
 
 never_wrong : (source : Span) (heard : Heard ℕ) (task : Task) → IsToldOutcome source heard task WrongWords → ⊥
-never_wrong source heard Run h = h
 never_wrong source heard (Generate seed) h = h.0
+never_wrong source heard Run h = h
+never_wrong source heard FirstPass h = h
+never_wrong source heard SecondPass h = h
 
 runs_by : (words : List (String Global)) (source : Span) (heard : Heard ℕ) (task : Task) (outcome : Outcome) → task_of words ≡ Some task →
     IsToldOutcome source heard task outcome → (status_of outcome ≡ 2) ↔ (task_of words ≡ None)
@@ -76,134 +89,191 @@ runs_by words source heard task outcome is h = (λ e. absurd (omega arith), λ n
 generates_by : (source sink : Span) (heard : Heard ℕ) (seed : ℕ) (outcome : Outcome) →
     IsToldOutcome source heard (Generate seed) outcome → IsWritten sink outcome →
     (status_of outcome ≡ 0) ⊎ (status_of outcome ≡ 9) ⊎ ((status_of outcome ≡ 6) × HasFault sink)
-generates_by source sink heard seed (Done t layout) h writes = inl refl
+generates_by source sink heard seed (Done account) h writes = inl refl
 generates_by source sink heard seed OutOfMemory h writes = inr (inl refl)
-generates_by source sink heard seed (Unwritten t layout) h writes = inr (inr (refl, writes.unwritten refl))
+generates_by source sink heard seed (Unwritten account) h writes = inr (inr (refl, writes.unwritten refl))
 generates_by source sink heard seed outcome h writes = absurd h.0
 
--- ---- the status for a source's bytes
+-- ---- the status that a script asks for
 
-long : (bytes : List ℕ) → MOST_BYTES < length bytes → status_for bytes ≡ 7
-long bytes more = let yes : ltb MOST_BYTES (length bytes) ≡ true = grind (arith, nat_tests) in rw yes
+accepted : (summary : Option (List ℕ)) (control : RateControlConfig) → IsRateControl summary control → option_and_then first_met summary ≡ None
+accepted None control is = refl
+accepted (Some bytes) control is = first_met-Summary bytes is.0 is.1
 
-within : (bytes : List ℕ) → length bytes ≤ MOST_BYTES → status_for bytes ≡ status_for_script (script_of bytes)
-within bytes fits = rw (le-ltb MOST_BYTES (length bytes) fits)
+due_by : (task : Task) (script : Script) (control : RateControlConfig) (status : ℕ) → IsRateControl script.summary control →
+    status ≡ status_behind (refusal_for task script control) → IsDue task (Ok script) status
+due_by task script control status is e = rw (accepted script.summary control is) (control, is, e)
 
-summary_status : (script : Result Script ℕ) (number : ℕ) → HasRefusedSummary number script → status_for_script script ≡ 10
-summary_status (Ok script) number e = rw e.1
-summary_status (Err line) number e = absurd e
+behind_none : (refusal : Option InvalidConfig) → refusal ≡ None → 0 ≡ status_behind refusal
+behind_none refusal none = rw none
 
-some_refusal : (refusal : Option InvalidConfig) (number : ℕ) → option_map number_of refusal ≡ Some number → is_some refusal ≡ true
-some_refusal None number e = cc
-some_refusal (Some refusal) number e = refl
+behind_some : (refusal : Option InvalidConfig) (number : ℕ) → option_map number_of refusal ≡ Some number → 4 ≡ status_behind refusal
+behind_some None number e = cc
+behind_some (Some refusal) number e = refl
 
-refused_by : (script : Script) (rate_control : RateControlConfig) (number : ℕ) (summary : Option (List ℕ)) → script.summary ≡ summary →
-    IsRateControl summary rate_control → option_map number_of (script_refusal script rate_control) ≡ Some number →
-    status_for_script (Ok script) ≡ 4
-refused_by script rate_control number None given is e =
-    let plain : option_map number_of (script_refusal script default_rate_control) ≡ Some number = rw is at e in
-    rw (given, some_refusal (script_refusal script default_rate_control) number plain)
-refused_by script rate_control number (Some bytes) given is e = rw (given, first_met-Summary bytes is.0 is.1)
+some_due : (why : Option Why) (P : Type 0) → IsTrue (is_some why) → MatchOption why P (λ w. ◌≡◌ {A = ℕ} 10 10)
+some_due None P some = let never : false ≡ true = some in cc
+some_due (Some why) P some = refl
 
-refused_status : (script : Result Script ℕ) (number : ℕ) → IsRefused number script → status_for_script script ≡ 4
-refused_status (Ok script) number e = refused_by script e.0 number script.summary refl e.1 e.2
-refused_status (Err line) number e = absurd e
+summary_due : (task : Task) (script : Result Script ℕ) (number : ℕ) → HasRefusedSummary number script → IsDue task script 10
+summary_due task (Ok script) number e = some_due (summary_refusal script) _ e.1
+summary_due task (Err line) number e = absurd e
 
-valid_status : (script : Script) → IsValidScript script → status_for_script (Ok script) ≡ 0
-valid_status script valid = rw (valid.one_pass, valid.valid)
+refused_due : (task : Task) (script : Result Script ℕ) (number : ℕ) → IsRefused task number script → IsDue task script 4
+refused_due task (Ok script) number e = due_by task script e.0 4 e.1 (behind_some (refusal_for task script e.0) number e.2)
+refused_due task (Err line) number e = absurd e
 
-done_status : (heard : Heard ℕ) (script : Result Script ℕ) (t : Transcript ℕ ℕ) (layout : Layout) → IsCarriedOut heard t layout script →
-    status_for_script script ≡ 0
-done_status heard (Ok script) t layout e = valid_status script e.0.valid
-done_status heard (Err line) t layout e = absurd e
+valid_due : (script : Script) → IsValidScript script → IsDue Run (Ok script) 0
+valid_due script valid =
+    due_by Run script default_rate_control 0 (rw valid.one_pass refl) (behind_none (refusal_for Run script default_rate_control) valid.valid)
+
+done_due : (heard : Heard ℕ) (task : Task) (account : Account) (script : Result Script ℕ) → IsCarriedOut heard task account script →
+    IsDue task script 0
+done_due heard Run (Turns transcript options) (Ok script) e = valid_due script e.0.valid
+done_due heard FirstPass (Passes transcript options) (Ok script) e =
+    due_by FirstPass script e.0.control 0 e.0.valid.summary (behind_none (refusal_for FirstPass script e.0.control) e.0.valid.valid)
+done_due heard SecondPass (Passes transcript options) (Ok script) e =
+    due_by SecondPass script e.0.control 0 e.0.valid.summary (behind_none (refusal_for SecondPass script e.0.control) e.0.valid.valid)
+done_due heard task account script e = absurd e
 
 -- a script whose least fault number was reached has fault numbers
 pub some_faults : (faults : List ℕ) (count : ℕ) → FailsBehind (Some (reduce min faults)) count → faults ≢ []
 some_faults [] count reached = absurd reached
 some_faults (fault ∷ faults) count reached = λ e. cc
 
-stopped_status : (heard : Heard ℕ) (script : Result Script ℕ) (command : ℕ) → IsStopped heard command script →
-    (status_for_script script ≡ 0) × NamesFault script
-stopped_status heard (Ok script) command e = (valid_status script e.valid, some_faults script.faults _ e.fails.stopped.reached)
-stopped_status heard (Err line) command e = absurd e
+stopped_due : (heard : Heard ℕ) (task : Task) (command : ℕ) (script : Result Script ℕ) → IsStopped heard task command script →
+    IsDue task script 0 × NamesFault script
+stopped_due heard Run command (Ok script) e =
+    (valid_due script e.valid, some_faults script.faults _ e.fails.stopped.reached)
+stopped_due heard FirstPass command (Ok script) e = (
+  due_by FirstPass script e.control 0 e.valid.summary (behind_none (refusal_for FirstPass script e.control) e.valid.valid),
+  some_faults script.faults _ e.fails.stopped.reached,
+)
+stopped_due heard SecondPass command (Ok script) e = (
+  due_by SecondPass script e.control 0 e.valid.summary (behind_none (refusal_for SecondPass script e.control) e.valid.valid),
+  some_faults script.faults _ e.fails.stopped.reached,
+)
+stopped_due heard task command script e = absurd e
 
-module _ (sink : Span) where
+packet_due : (heard : Heard ℕ) (task : Task) (number : ℕ) (script : Result Script ℕ) → HasRefusedPacket heard task number script →
+    IsDue task script 0 × GivesData script
+packet_due heard FirstPass number (Ok script) e = (
+  due_by FirstPass script e.control 0 e.valid.summary (behind_none (refusal_for FirstPass script e.control) e.valid.valid),
+  gives true script e.calls e.valid.asked e.refused.done e.refused.message e.refused.at_give,
+)
+packet_due heard SecondPass number (Ok script) e = (
+  due_by SecondPass script e.control 0 e.valid.summary (behind_none (refusal_for SecondPass script e.control) e.valid.valid),
+  gives false script e.calls e.valid.asked e.refused.done e.refused.message e.refused.at_give,
+)
+packet_due heard task number script e = absurd e
+
+-- ---- the status for a source's bytes
+
+due_long : (task : Task) (bytes : List ℕ) → MOST_BYTES < length bytes → IsDueFor task bytes 7
+due_long task bytes more = let yes : ltb MOST_BYTES (length bytes) ≡ true = grind (arith, nat_tests) in rw yes refl
+
+due_within : (task : Task) (bytes : List ℕ) (status : ℕ) → length bytes ≤ MOST_BYTES → IsDue task (script_for task bytes) status →
+    IsDueFor task bytes status
+due_within task bytes status fits due = rw (le-ltb MOST_BYTES (length bytes) fits) due
+
+module _ (sink : Span) (task : Task) where
   abbrev Exact : Option (List ℕ) → ℕ → Type 0
-  Exact left status = IfSome left (λ bytes. IsStatus sink bytes status)
+  Exact left status = IfSome left (λ bytes. IsStatus sink task bytes status)
 
   nine : (left : Option (List ℕ)) → Exact left 9
   nine None = tt
-  nine (Some bytes) = inr (inl refl)
+  nine (Some bytes) = inl refl
 
   seven : (left after : Option (List ℕ)) → IsTooLong MOST_BYTES left after → Exact left 7
   seven None after h = tt
   seven (Some bytes) None h = absurd h
-  seven (Some bytes) (Some rest) h = inl (sym (long bytes h.0))
+  seven (Some bytes) (Some rest) h = inr (inl (due_long task bytes h.0))
 
-  three : (left after : Option (List ℕ)) (line : ℕ) → ReadsAll MOST_BYTES left after (λ bytes. script_of bytes ≡ Err line) →
-      Exact left 3
-  three None after line h = tt
-  three (Some bytes) after line h =
-      let bad : status_for_script (script_of bytes) ≡ 3 = rw h.2 in inl (sym (within bytes h.1 ∙ bad))
+  due : (P : Result Script ℕ → Type 0) (status : ℕ) (left after : Option (List ℕ)) →
+      ReadsAll MOST_BYTES left after (λ bytes. P (script_for task bytes)) →
+      ((script : Result Script ℕ) → P script → IsDue task script status) → Exact left status
+  due P status None after h asks = tt
+  due P status (Some bytes) after h asks = inr (inl (due_within task bytes status h.1 (asks (script_for task bytes) h.2)))
 
-  ten : (left after : Option (List ℕ)) (number : ℕ) → ReadsAll MOST_BYTES left after (λ bytes. HasRefusedSummary number (script_of bytes)) →
+  early : (P : Result Script ℕ → Type 0) (status : ℕ) (left after : Option (List ℕ)) →
+      ReadsAll MOST_BYTES left after (λ bytes. P (script_for task bytes)) →
+      ((script : Result Script ℕ) → P script → IsDue task script 0 × EndsEarly sink script status) → Exact left status
+  early P status None after h ends = tt
+  early P status (Some bytes) after h ends =
+      let both = ends (script_for task bytes) h.2 in
+      inr (inr (due_within task bytes 0 h.1 both.0, both.1))
+
+  ten_by : (heard : Heard ℕ) (number : ℕ) (bytes : List ℕ) → length bytes ≤ MOST_BYTES →
+      HasRefusedSummary number (script_for task bytes) ⊎ HasRefusedPacket heard task number (script_for task bytes) →
+      IsStatus sink task bytes 10
+  ten_by heard number bytes fits (inl refused) =
+      inr (inl (due_within task bytes 10 fits (summary_due task (script_for task bytes) number refused)))
+  ten_by heard number bytes fits (inr refused) =
+      let both = packet_due heard task number (script_for task bytes) refused in
+      inr (inr (due_within task bytes 0 fits both.0, inr (inr (refl, both.1))))
+
+  ten : (heard : Heard ℕ) (number : ℕ) (left after : Option (List ℕ)) →
+      ReadsAll MOST_BYTES left after (λ bytes. HasRefusedSummary number (script_for task bytes) ⊎ HasRefusedPacket heard task number (script_for task bytes)) →
       Exact left 10
-  ten None after number h = tt
-  ten (Some bytes) after number h = inl (sym (within bytes h.1 ∙ summary_status (script_of bytes) number h.2))
-
-  four : (left after : Option (List ℕ)) (number : ℕ) → ReadsAll MOST_BYTES left after (λ bytes. IsRefused number (script_of bytes)) →
-      Exact left 4
-  four None after number h = tt
-  four (Some bytes) after number h = inl (sym (within bytes h.1 ∙ refused_status (script_of bytes) number h.2))
-
-  module _ (heard : Heard ℕ) (t : Transcript ℕ ℕ) (layout : Layout) where
-    zero_status : (left after : Option (List ℕ)) → ReadsAll MOST_BYTES left after (λ bytes. IsCarriedOut heard t layout (script_of bytes)) →
-        Exact left 0
-    zero_status None after h = tt
-    zero_status (Some bytes) after h = inl (sym (within bytes h.1 ∙ done_status heard (script_of bytes) t layout h.2))
-
-    six : (left after : Option (List ℕ)) → ReadsAll MOST_BYTES left after (λ bytes. IsCarriedOut heard t layout (script_of bytes)) →
-        HasFault sink → Exact left 6
-    six None after h failed = tt
-    six (Some bytes) after h failed =
-        inr (inr (inl (within bytes h.1 ∙ done_status heard (script_of bytes) t layout h.2, refl, failed)))
-
-  eight : (heard : Heard ℕ) (command : ℕ) (left after : Option (List ℕ)) →
-      ReadsAll MOST_BYTES left after (λ bytes. IsStopped heard command (script_of bytes)) → Exact left 8
-  eight heard command None after h = tt
-  eight heard command (Some bytes) after h =
-      let stopped = stopped_status heard (script_of bytes) command h.2 in
-      inr (inr (inr (within bytes h.1 ∙ stopped.0, refl, stopped.1)))
+  ten heard number None after h = tt
+  ten heard number (Some bytes) after h = ten_by heard number bytes h.1 h.2
 
   exact_by : (source : Span) (heard : Heard ℕ) (outcome : Outcome) →
-      IsToldOutcome source heard Run outcome → IsWritten sink outcome → ¬ HasFault source →
-      Exact source.known (status_of outcome)
-  exact_by source heard WrongWords h writes none = absurd h
-  exact_by source heard Unreadable h writes none = absurd (none h)
-  exact_by source heard TooLong h writes none = seven source.known source.known_after h
-  exact_by source heard (BadLine line) h writes none = three source.known source.known_after line h
-  exact_by source heard (RefusedPassData number) h writes none = ten source.known source.known_after number h
-  exact_by source heard (Refused number) h writes none = four source.known source.known_after number h
-  exact_by source heard (CoderFault command) h writes none = eight heard command source.known source.known_after h
-  exact_by source heard (Done t layout) h writes none = zero_status heard t layout source.known source.known_after h
-  exact_by source heard (Unwritten t layout) h writes none =
-      six heard t layout source.known source.known_after h (writes.unwritten refl)
-  exact_by source heard OutOfMemory h writes none = nine source.known
+      IsSourceOutcome source heard task outcome → ¬ HasFault source → Exact source.known (status_of outcome)
+  exact_by source heard WrongWords h none = absurd h
+  exact_by source heard (Unwritten account) h none = absurd h
+  exact_by source heard Unreadable h none = absurd (none h)
+  exact_by source heard TooLong h none = seven source.known source.known_after h
+  exact_by source heard (BadLine line) h none =
+      due (λ script. script ≡ Err line) 3 source.known source.known_after h (λ script e. rw e refl)
+  exact_by source heard (RefusedPassData number) h none = ten heard number source.known source.known_after h
+  exact_by source heard (Refused number) h none =
+      due (IsRefused task number) 4 source.known source.known_after h (λ script e. refused_due task script number e)
+  exact_by source heard (CoderFault command) h none =
+      early (IsStopped heard task command) 8 source.known source.known_after h
+      (λ script e. let both = stopped_due heard task command script e in (both.0, inr (inl (refl, both.1))))
+  exact_by source heard (Done account) h none =
+      due (IsCarriedOut heard task account) 0 source.known source.known_after h (λ script e. done_due heard task account script e)
+  exact_by source heard OutOfMemory h none = nine source.known
+
+  exact_cut : (source : Span) (heard : Heard ℕ) (account : Account) →
+      IsSourceOutcome source heard task (Done account) → HasFault sink → Exact source.known 6
+  exact_cut source heard account h failed =
+      early (IsCarriedOut heard task account) 6 source.known source.known_after h
+      (λ script e. (done_due heard task account script e, inl (refl, failed)))
+
+exact_told : (sink : Span) (task : Task) (source : Span) (heard : Heard ℕ) (outcome : Outcome) → IsTrue (reads_script task) →
+    IsToldOutcome source heard task outcome → IsWritten sink outcome → ¬ HasFault source →
+    IfSome source.known (λ bytes. IsStatus sink task bytes (status_of outcome))
+exact_told sink (Generate seed) source heard outcome reads h writes none = let never : false ≡ true = reads in cc
+exact_told sink Run source heard (Unwritten account) reads h writes none = exact_cut sink Run source heard account h (writes.unwritten refl)
+exact_told sink Run source heard outcome reads h writes none = exact_by sink Run source heard outcome h none
+exact_told sink FirstPass source heard (Unwritten account) reads h writes none =
+    exact_cut sink FirstPass source heard account h (writes.unwritten refl)
+exact_told sink FirstPass source heard outcome reads h writes none = exact_by sink FirstPass source heard outcome h none
+exact_told sink SecondPass source heard (Unwritten account) reads h writes none =
+    exact_cut sink SecondPass source heard account h (writes.unwritten refl)
+exact_told sink SecondPass source heard outcome reads h writes none = exact_by sink SecondPass source heard outcome h none
 
 -- ---- the run
 
+some_same : (one other : Task) → Some one ≡ Some other → one ≡ other
+some_same one other e = cc
+
 module _ (words : List (String Global)) (source sink : Span) (heard : Heard ℕ) where
   exact_for : (task : Task) (outcome : Outcome) → task_of words ≡ Some task → IsToldOutcome source heard task outcome →
-      IsWritten sink outcome → task_of words ≡ Some Run → ¬ HasFault source →
-      IfSome source.known (λ bytes. IsStatus sink bytes (status_of outcome))
-  exact_for Run outcome is h writes asked none = exact_by sink source heard outcome h writes none
-  exact_for (Generate seed) outcome is h writes asked none = let other : Some (Generate seed) ≡ Some Run = sym is ∙ asked in cc
+      IsWritten sink outcome → (named : Task) → task_of words ≡ Some named → IsTrue (reads_script named) → ¬ HasFault source →
+      IfSome source.known (λ bytes. IsStatus sink named bytes (status_of outcome))
+  exact_for task outcome is h writes named asked reads none =
+      let same : task ≡ named = some_same task named (sym is ∙ asked) in
+      exact_told sink named source heard outcome reads (subst (λ (task : Task). IsToldOutcome source heard task outcome) same h) writes none
 
   generates_for : (task : Task) (outcome : Outcome) → task_of words ≡ Some task → IsToldOutcome source heard task outcome →
       IsWritten sink outcome → (seed : ℕ) → task_of words ≡ Some (Generate seed) →
       (status_of outcome ≡ 0) ⊎ (status_of outcome ≡ 9) ⊎ ((status_of outcome ≡ 6) × HasFault sink)
-  generates_for Run outcome is h writes seed asked = let other : Some Run ≡ Some (Generate seed) = sym is ∙ asked in cc
-  generates_for (Generate own) outcome is h writes seed asked = generates_by source sink heard own outcome h writes
+  generates_for task outcome is h writes seed asked =
+      let same : task ≡ Generate seed = some_same task (Generate seed) (sym is ∙ asked) in
+      generates_by source sink heard seed outcome (subst (λ (task : Task). IsToldOutcome source heard task outcome) same h) writes
 
   module _ (task : Task) (is : task_of words ≡ Some task)
       (reads : TakesAtMost (MOST_BYTES + 1) source.known source.known_after) (later : source.faults ≤ source.faults_after) where

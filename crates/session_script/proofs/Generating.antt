@@ -1,5 +1,5 @@
 -- What the script of a seed comes to.
-use Rattle.std.proofs.Common.{◌≡◌, ℕ, List, [], Option, None, Some, is_some, Ok, IsTrue, true, false, refl, ap, subst, sym, ◌∙◌, option_map}
+use Rattle.std.proofs.Common.{◌≡◌, ℕ, List, [], Option, None, Some, is_some, Ok, inl, inr, IsTrue, true, false, refl, ap, subst, sym, ◌∙◌, option_map}
 use Rattle.av1_settings.specs.Defaults.{default_rate_control}
 use Rattle.av1_settings.specs.Invalid.{number_of}
 use Rattle.av1_settings.specs.declared.invalid.InvalidConfig.{InvalidConfig}
@@ -11,6 +11,8 @@ use Rattle.script_lines.specs.Grammar.{IsRateControl, summary_refusal}
 use Rattle.session_core.specs.Told.{Heard}
 use Rattle.session_script.specs.declared.outcome.Outcome.{Outcome}
 use Rattle.session_script.specs.declared.outcome.Outcome.TheVariants.{BadLine, RefusedPassData, Refused, CoderFault, Done, OutOfMemory}
+use Rattle.session_script.specs.declared.outcome.Account.TheVariants.{Turns, Summary, Passes}
+use Rattle.session_script.specs.declared.words.Task.TheVariants.{Run}
 use Rattle.session_script.specs.Carried.{CarriesOut, script_refusal}
 use Rattle.session_script.specs.Outcomes.{IsScriptOutcome, IsSeedOutcome, summed_up}
 use Rattle.session_script.proofs.Answered.{some_faults}
@@ -45,11 +47,14 @@ module _ (heard : Heard ℕ) (script : Script) (seed : ℕ) (is : script ≡ gen
   no_faults : script.faults ≡ []
   no_faults = ap (λ (script : Script). script.faults) is ∙ made_faults FRAMES RECEIVES seed
 
-  pub seed_outcome : (outcome : Outcome) → IsScriptOutcome heard (Ok script) outcome → IsSeedOutcome heard seed (summed_up outcome)
-  seed_outcome (Done t layout) h = (subst (λ (script : Script). CarriesOut heard script t) is h.0, refl)
+  pub seed_outcome : (outcome : Outcome) → IsScriptOutcome heard Run (Ok script) outcome → IsSeedOutcome heard seed (summed_up outcome)
+  seed_outcome (Done (Turns transcript options)) h = subst (λ (script : Script). CarriesOut heard script transcript) is h.0
+  seed_outcome (Done (Summary transcript)) h = absurd h
+  seed_outcome (Done (Passes transcript options)) h = absurd h
   seed_outcome OutOfMemory h = tt
   seed_outcome (BadLine line) h = cc
-  seed_outcome (RefusedPassData number) h = no_why script.summary script refl no_summary h.1
+  seed_outcome (RefusedPassData number) (inl h) = no_why script.summary script refl no_summary h.1
+  seed_outcome (RefusedPassData number) (inr h) = absurd h
   seed_outcome (Refused number) h = no_refusal script script.summary h.0 number no_summary valid h.1 h.2
   seed_outcome (CoderFault command) h = some_faults script.faults _ h.fails.stopped.reached no_faults
   seed_outcome outcome h = h

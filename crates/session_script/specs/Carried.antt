@@ -1,18 +1,14 @@
--- What the program says of the session that it ran: why a summary or a configuration is refused, and what a transcript is.
--- These are the session's own words; the outcomes of a run cite them from here alone.
-use Rattle.std.specs.Prelude.{◌≡◌, ◌≢◌, ℕ, Bool, true, false, IsTrue, ◌||◌, if◌then◌else◌, List, [], map, Option, None, Some, is_some, Result, Ok, Err}
+-- What the program says of a session in one pass that it ran: why a configuration is refused, and what a transcript is.
+use Rattle.std.specs.Prelude.{◌≡◌, ℕ, Bool, true, false, List, map, Option, None}
 use Rattle.std.specs.List.{list_any}
-use Rattle.std.specs.Option.{option_map}
 use Rattle.av1_settings.specs.declared.invalid.InvalidConfig.{InvalidConfig}
 use Rattle.av1_settings.specs.declared.rate_control.RateControlConfig.{RateControlConfig}
 use Rattle.av1_settings.specs.Checks.{session_refusal}
 use Rattle.av1_settings.specs.Defaults.{default_rate_control}
-use Rattle.av1_settings.specs.Invalid.{number_of}
-use Rattle.generated_script.specs.Generated.{generated}
 use Rattle.script_lines.specs.declared.answer.Print.{Print}
 use Rattle.script_lines.specs.declared.answer.Print.TheVariants.{Bytes as PrintBytes, QuantizerIndex, Reservoir as PrintReservoir}
 use Rattle.script_lines.specs.declared.script.Script.{Script}
-use Rattle.script_lines.specs.Grammar.{IsRateControl, config_of, summary_refusal}
+use Rattle.script_lines.specs.Grammar.{config_of}
 use Rattle.script_lines.specs.SettingLines.{encoder_of}
 use Rattle.scripted.specs.declared.coder.ScriptedCoder.{ScriptedCoder}
 use Rattle.scripted.specs.declared.detector.ScriptedDetector.{ScriptedDetector}
@@ -28,9 +24,6 @@ use Rattle.session_core.specs.Answers.{FailsAt}
 use Rattle.session_core.specs.Sessions.{IsSessionRun}
 use Rattle.session_core.specs.Told.{Heard, heard}
 use Rattle.session_text.specs.declared.report.ReportOptions.{ReportOptions}
-use Rattle.session_script.specs.declared.outcome.Layout.{Layout}
-use Rattle.session_script.specs.declared.outcome.Layout.TheVariants.{Summary, Turns}
-use Rattle.session_script.specs.declared.run.TheConstants.{CORRUPTED}
 use Rattle.session_script.specs.Calls.{asked_by, asked_for}
 
 -- what the coder, the detector and the mean scales of a run tell
@@ -93,46 +86,3 @@ pub record StopsAt (heard : Heard ℕ) (script : Script) (command : ℕ) : Type 
   pub calls : List (Call ℕ ℕ)
   pub asked : AreCallsOf script calls
   pub fails : FailsAt (encoder_of script.settings) scripted_tables calls (heard_first script) heard command
-
--- ---- of bytes, by what they are as a script
-
--- a session carried it out, and its turns are reported with its print options
-abbrev pub IsCarriedOut : Heard ℕ → Transcript ℕ ℕ → Layout → Result Script ℕ → Type 0
-IsCarriedOut heard transcript layout (Ok script) =
-    CarriesOut heard script transcript × (layout ≡ Turns (options_of script))
-IsCarriedOut heard transcript layout (Err line) = ⊥
-
-abbrev pub IsStopped : Heard ℕ → ℕ → Result Script ℕ → Type 0
-IsStopped heard command (Ok script) = StopsAt heard script command
-IsStopped heard command (Err line) = ⊥
-
--- the summary is refused, by the error of this number
-abbrev pub HasRefusedSummary : ℕ → Result Script ℕ → Type 0
-HasRefusedSummary number (Ok script) = (number ≡ CORRUPTED) × IsTrue (is_some (summary_refusal script))
-HasRefusedSummary number (Err line) = ⊥
-
--- the configuration is refused, by the refusal of this number
-abbrev pub IsRefused : ℕ → Result Script ℕ → Type 0
-IsRefused number (Ok script) =
-    (rate_control : RateControlConfig) × IsRateControl script.summary rate_control
-    × (option_map number_of (script_refusal script rate_control) ≡ Some number)
-IsRefused number (Err line) = ⊥
-
--- the status where neither coder nor sink fails; a run is a session in one pass, so it takes no summary
-abbrev pub status_for_script : Result Script ℕ → ℕ
-status_for_script (Ok script) =
-    if is_some (summary_refusal script) then 10
-    else if is_some script.summary || is_some (script_refusal script default_rate_control) then 4
-    else 0
-status_for_script (Err line) = 3
-
--- a script names a call that its coder is to fail
-abbrev pub NamesFault : Result Script ℕ → Type 0
-NamesFault (Ok script) = script.faults ≢ []
-NamesFault (Err line) = ⊥
-
--- ---- of a seed
-
--- a session carried out the script that the seed makes, and is summed up
-abbrev pub IsGenerated : Heard ℕ → Transcript ℕ ℕ → Layout → ℕ → Type 0
-IsGenerated heard transcript layout seed = CarriesOut heard (generated seed) transcript × (layout ≡ Summary)

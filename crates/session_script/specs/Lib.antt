@@ -1,5 +1,7 @@
 pub mod Calls
 pub mod Carried
+pub mod Causes
 pub mod Outcomes
+pub mod Passes
 pub mod Program
 pub mod Words

@@ -1,36 +1,36 @@
 -- The outcomes of a run: the status, the text and the report of each, and when it comes.
-use Rattle.std.specs.Prelude.{◌≡◌, ⊤, ℕ, ◌+◌, ◌≤◌, ◌⊎◌, ◌↔◌, Bool, true, false, IsTrue, nat_lt, if◌then◌else◌, List, [], ◌∷◌, ◌++◌, length, Option, None, Some, IfSome, MatchOption, Result, Err, codes, decimal, String}
+use Rattle.std.specs.Prelude.{◌≡◌, ⊤, ℕ, ◌+◌, ◌≤◌, ◌⊎◌, ◌↔◌, Bool, true, false, IsTrue, nat_lt, List, [], ◌∷◌, ◌++◌, length, Option, None, Some, IfSome, MatchBool, MatchOption, Result, Err, codes, decimal, String}
 use Rattle.std.specs.declared.alloc.Global.{Global}
 use Rattle.std.specs.Io.KnownBytes.{Appends, Keeps}
 use Rattle.coding_base.specs.Faults.{Rose}
 use Rattle.byte_streams.specs.Streams.{GrowsByPart, IsTooLong, ReadsAll, TakesAtMost}
 use Rattle.script_lines.specs.declared.script.Script.{Script}
-use Rattle.script_lines.specs.Grammar.{script_of}
+use Rattle.session_core.specs.declared.pass_transcript.PassTranscript.{PassTranscript}
 use Rattle.session_core.specs.declared.transcript.Transcript.{Transcript}
 use Rattle.session_core.specs.Told.{Heard}
-use Rattle.session_core.specs.declared.transcript.Turn.{Turn}
+use Rattle.session_text.specs.PassLines.{pass_report}
 use Rattle.session_text.specs.ReportLines.{report}
 use Rattle.session_text.specs.SummaryLines.{summary}
-use Rattle.session_script.specs.declared.outcome.Layout.{Layout}
-use Rattle.session_script.specs.declared.outcome.Layout.TheVariants.{Summary, Turns}
+use Rattle.session_script.specs.declared.outcome.Account.{Account}
+use Rattle.session_script.specs.declared.outcome.Account.TheVariants.{Turns, Summary, Passes}
 use Rattle.session_script.specs.declared.outcome.Outcome.{Outcome}
 use Rattle.session_script.specs.declared.outcome.Outcome.TheVariants.{WrongWords, Unreadable, TooLong, BadLine, RefusedPassData, Refused, CoderFault, Done, Unwritten, OutOfMemory}
 use Rattle.session_script.specs.declared.outcome.Report.{Report}
 use Rattle.session_script.specs.declared.run.TheConstants.{MOST_BYTES}
 use Rattle.session_script.specs.declared.words.Task.{Task}
-use Rattle.session_script.specs.declared.words.Task.TheVariants.{Run, Generate}
-use Rattle.session_script.specs.Carried.{HasRefusedSummary, IsCarriedOut, IsGenerated, IsRefused, IsStopped, NamesFault, status_for_script}
-use Rattle.session_script.specs.Words.{task_of}
+use Rattle.session_script.specs.declared.words.Task.TheVariants.{Generate}
+use Rattle.session_script.specs.Causes.{GivesData, HasRefusedPacket, HasRefusedSummary, IsCarriedOut, IsDue, IsGenerated, IsRefused, IsStopped, NamesFault, script_for}
+use Rattle.session_script.specs.Words.{reads_script, task_of}
 
 -- ---- what an outcome answers
 
 abbrev pub status_of : Outcome → ℕ
-status_of (Done transcript layout) = 0
+status_of (Done account) = 0
 status_of WrongWords = 2
 status_of (BadLine line) = 3
 status_of (Refused number) = 4
 status_of Unreadable = 5
-status_of (Unwritten transcript layout) = 6
+status_of (Unwritten account) = 6
 status_of TooLong = 7
 status_of (CoderFault command) = 8
 status_of OutOfMemory = 9
@@ -48,10 +48,25 @@ abbrev pub command_of : Outcome → Option ℕ
 command_of (CoderFault command) = Some command
 command_of outcome = None
 
+-- a session in one pass has a transcript, and one in two passes has one of its own
+abbrev pub session_in : Account → Option (Transcript ℕ ℕ)
+session_in (Turns transcript options) = Some transcript
+session_in (Summary transcript) = Some transcript
+session_in (Passes transcript options) = None
+
+abbrev pub passes_in : Account → Option (PassTranscript ℕ ℕ)
+passes_in (Passes transcript options) = Some transcript
+passes_in account = None
+
 abbrev pub transcript_of : Outcome → Option (Transcript ℕ ℕ)
-transcript_of (Done transcript layout) = Some transcript
-transcript_of (Unwritten transcript layout) = Some transcript
+transcript_of (Done account) = session_in account
+transcript_of (Unwritten account) = session_in account
 transcript_of outcome = None
+
+abbrev pub pass_of : Outcome → Option (PassTranscript ℕ ℕ)
+pass_of (Done account) = passes_in account
+pass_of (Unwritten account) = passes_in account
+pass_of outcome = None
 
 abbrev pub report_of : Outcome → Report
 report_of outcome = record {
@@ -60,17 +75,19 @@ report_of outcome = record {
   config = config_of outcome;
   command = command_of outcome;
   transcript = transcript_of outcome;
+  pass = pass_of outcome;
 }
 
 -- the turns of a session as text: each with its lines, or all summed up
-abbrev pub text_in : Layout → List (Turn ℕ ℕ) → List ℕ
-text_in (Turns options) turns = report options turns
-text_in Summary turns = summary turns
+abbrev pub text_in : Account → List ℕ
+text_in (Turns transcript options) = report options transcript.turns
+text_in (Summary transcript) = summary transcript.turns
+text_in (Passes transcript options) = pass_report options transcript.turns
 
 -- the text of an outcome; of some there is none
 abbrev pub text_of : Outcome → List ℕ
-text_of (Done transcript layout) = text_in layout transcript.turns
-text_of (Unwritten transcript layout) = text_in layout transcript.turns
+text_of (Done account) = text_in account
+text_of (Unwritten account) = text_in account
 text_of (BadLine line) = codes "script line " ++ (decimal line ++ 10 ∷ [])
 text_of (RefusedPassData number) = codes "pass data " ++ (decimal number ++ 10 ∷ [])
 text_of (Refused number) = codes "invalid config " ++ (decimal number ++ 10 ∷ [])
@@ -79,12 +96,17 @@ text_of outcome = []
 
 -- the outcome where the sink failed while the text was written
 abbrev pub cut_short : Outcome → Outcome
-cut_short (Done transcript layout) = Unwritten transcript layout
+cut_short (Done account) = Unwritten account
 cut_short outcome = outcome
 
--- the outcome where a session's turns are summed up
+-- the turns of a session in one pass, summed up
+abbrev pub sums : Account → Account
+sums (Turns transcript options) = Summary transcript
+sums account = account
+
+-- the outcome where they are summed up
 abbrev pub summed_up : Outcome → Outcome
-summed_up (Done transcript layout) = Done transcript Summary
+summed_up (Done account) = Done (sums account)
 summed_up outcome = outcome
 
 abbrev pub is_silent : Outcome → Bool
@@ -118,45 +140,46 @@ HasFault stream = Rose stream.faults stream.faults_after
 abbrev pub IsUnread : Span → Type 0
 IsUnread source = (source.known_after ≡ source.known) × (source.faults_after ≡ source.faults)
 
--- the source was read to its end, and what its bytes are as a script meets this
-abbrev pub ReadsScript : Span → (Result Script ℕ → Type 0) → Type 0
-ReadsScript source P =
-    ReadsAll MOST_BYTES source.known source.known_after (λ bytes. P (script_of bytes))
+-- the source was read to its end, and what its bytes are as the script of a word meets this
+abbrev pub ReadsScript : Span → Task → (Result Script ℕ → Type 0) → Type 0
+ReadsScript source task P =
+    ReadsAll MOST_BYTES source.known source.known_after (λ bytes. P (script_for task bytes))
 
--- what bytes came to as a script
-abbrev pub IsScriptOutcome : Heard ℕ → Result Script ℕ → Outcome → Type 0
-IsScriptOutcome heard script (BadLine line) = script ≡ Err line
-IsScriptOutcome heard script (RefusedPassData number) = HasRefusedSummary number script
-IsScriptOutcome heard script (Refused number) = IsRefused number script
-IsScriptOutcome heard script (CoderFault command) = IsStopped heard command script
-IsScriptOutcome heard script (Done transcript layout) = IsCarriedOut heard transcript layout script
-IsScriptOutcome heard script OutOfMemory = ⊤
-IsScriptOutcome heard script outcome = ⊥
+-- what bytes came to as the script of a word
+abbrev pub IsScriptOutcome : Heard ℕ → Task → Result Script ℕ → Outcome → Type 0
+IsScriptOutcome heard task script (BadLine line) = script ≡ Err line
+IsScriptOutcome heard task script (RefusedPassData number) =
+    HasRefusedSummary number script ⊎ HasRefusedPacket heard task number script
+IsScriptOutcome heard task script (Refused number) = IsRefused task number script
+IsScriptOutcome heard task script (CoderFault command) = IsStopped heard task command script
+IsScriptOutcome heard task script (Done account) = IsCarriedOut heard task account script
+IsScriptOutcome heard task script OutOfMemory = ⊤
+IsScriptOutcome heard task script outcome = ⊥
 
 -- what a source came to, before a text was written
-abbrev pub IsSourceOutcome : Span → Heard ℕ → Outcome → Type 0
-IsSourceOutcome source heard Unreadable = HasFault source
-IsSourceOutcome source heard TooLong = IsTooLong MOST_BYTES source.known source.known_after
-IsSourceOutcome source heard OutOfMemory = ⊤
-IsSourceOutcome source heard WrongWords = ⊥
-IsSourceOutcome source heard (Unwritten transcript layout) = ⊥
-IsSourceOutcome source heard outcome =
-    ReadsScript source (λ script. IsScriptOutcome heard script outcome)
+abbrev pub IsSourceOutcome : Span → Heard ℕ → Task → Outcome → Type 0
+IsSourceOutcome source heard task Unreadable = HasFault source
+IsSourceOutcome source heard task TooLong = IsTooLong MOST_BYTES source.known source.known_after
+IsSourceOutcome source heard task OutOfMemory = ⊤
+IsSourceOutcome source heard task WrongWords = ⊥
+IsSourceOutcome source heard task (Unwritten account) = ⊥
+IsSourceOutcome source heard task outcome =
+    ReadsScript source task (λ script. IsScriptOutcome heard task script outcome)
 
 -- what a seed came to, before a text was written
 abbrev pub IsSeedOutcome : Heard ℕ → ℕ → Outcome → Type 0
-IsSeedOutcome heard seed (Done transcript layout) = IsGenerated heard transcript layout seed
+IsSeedOutcome heard seed (Done account) = IsGenerated heard account seed
 IsSeedOutcome heard seed OutOfMemory = ⊤
 IsSeedOutcome heard seed outcome = ⊥
 
 -- what a task came to, before a text was written; a seed's reads no source
 abbrev pub IsTaskOutcome : Span → Heard ℕ → Task → Outcome → Type 0
-IsTaskOutcome source heard Run outcome = IsSourceOutcome source heard outcome
 IsTaskOutcome source heard (Generate seed) outcome = IsSeedOutcome heard seed outcome × IsUnread source
+IsTaskOutcome source heard task outcome = IsSourceOutcome source heard task outcome
 
 -- the same where its text is written: what comes before is as if the sink hadn't failed
 abbrev pub IsToldOutcome : Span → Heard ℕ → Task → Outcome → Type 0
-IsToldOutcome source heard task (Unwritten transcript layout) = IsTaskOutcome source heard task (Done transcript layout)
+IsToldOutcome source heard task (Unwritten account) = IsTaskOutcome source heard task (Done account)
 IsToldOutcome source heard task outcome = IsTaskOutcome source heard task outcome
 
 -- each outcome comes only so
@@ -164,18 +187,22 @@ abbrev pub IsOutcome : List (String Global) → Span → Heard ℕ → Outcome �
 IsOutcome words source heard outcome =
     MatchOption (task_of words) (outcome ≡ WrongWords) (λ task. IsToldOutcome source heard task outcome)
 
--- the status for a source's bytes, where neither coder nor sink fails
-abbrev pub status_for : List ℕ → ℕ
-status_for bytes =
-    if nat_lt MOST_BYTES (length bytes) then 7 else status_for_script (script_of bytes)
+-- the status for a source's bytes, where neither coder nor sink fails, and no pass data is refused that the script gives
+abbrev pub IsDueFor : Task → List ℕ → ℕ → Type 0
+IsDueFor task bytes status =
+    MatchBool (nat_lt MOST_BYTES (length bytes)) (status ≡ 7) (IsDue task (script_for task bytes) status)
 
--- the status is the one that the bytes ask for; or memory ran out; or, in place of 0, the sink failed while the report was
--- written, or the coder failed, at a call that the script names
-abbrev pub IsStatus : Span → List ℕ → ℕ → Type 0
-IsStatus sink bytes status =
-    (status ≡ status_for bytes) ⊎ (status ≡ 9)
-    ⊎ ((status_for bytes ≡ 0) × (status ≡ 6) × HasFault sink)
-    ⊎ ((status_for bytes ≡ 0) × (status ≡ 8) × NamesFault (script_of bytes))
+-- what comes in place of status 0: the sink failed while the report was written; or the coder failed, at a call that the script
+-- names; or pass data was refused that the script gives
+abbrev pub EndsEarly : Span → Result Script ℕ → ℕ → Type 0
+EndsEarly sink script status =
+    ((status ≡ 6) × HasFault sink) ⊎ ((status ≡ 8) × NamesFault script) ⊎ ((status ≡ 10) × GivesData script)
+
+-- memory ran out; or the status is the one that the bytes ask for; or it is another in place of 0
+abbrev pub IsStatus : Span → Task → List ℕ → ℕ → Type 0
+IsStatus sink task bytes status =
+    (status ≡ 9) ⊎ IsDueFor task bytes status
+    ⊎ (IsDueFor task bytes 0 × EndsEarly sink (script_for task bytes) status)
 
 -- what a sink was given for an outcome
 pub record IsWritten (sink : Span) (outcome : Outcome) : Type 0 where
@@ -204,8 +231,8 @@ pub record IsRun
   -- each outcome comes only where its cause is
   pub cause : IsOutcome words source heard outcome
   -- where the source doesn't fail, its bytes decide the status
-  pub exact : task_of words ≡ Some Run → ¬ HasFault source →
-      IfSome source.known (λ bytes. IsStatus sink bytes (status_of outcome))
+  pub exact : (task : Task) → task_of words ≡ Some task → IsTrue (reads_script task) → ¬ HasFault source →
+      IfSome source.known (λ bytes. IsStatus sink task bytes (status_of outcome))
   -- a seed's script is carried out; or memory ran out, or the sink failed while the text was written
   pub generates : (seed : ℕ) → task_of words ≡ Some (Generate seed) →
       (status_of outcome ≡ 0) ⊎ (status_of outcome ≡ 9) ⊎ ((status_of outcome ≡ 6) × HasFault sink)

@@ -1,35 +1,90 @@
-ghost use Rattle.std.specs.Prelude.{◌≡◌, ◌≤◌, map, IfOk, IfSome};
-ghost use Rattle.session_script.specs.Calls.{asked_by, asked_for, own_picture, plain_picture};
+ghost use Rattle.std.specs.Prelude.{◌≡◌, ◌≤◌, ◌++◌, map, flat_map, IfOk, OnOk, IfSome, IsTrue};
+ghost use Rattle.std.specs.List.{list_all};
+ghost use Rattle.script_lines.specs.Grammar.{is_act};
+ghost use Rattle.session_script.specs.Calls.{asked_by, asked_for, asked_for_passes, asked_in_any, asked_in_passes, own_picture, plain_picture};
 
 use av1_frame::{ChromaSampling, Frame};
 use av1_settings::EncoderConfig;
 use coding_base::OutOfMemory;
-use script_lines::Action;
-use session_core::{Call, FrameParameters, FrameTypeOverride, T35List};
+use script_lines::{Action, ScriptCall};
+use session_core::{Call, FrameParameters, FrameTypeOverride, PassCall, T35List};
 use std::alloc::Global;
 use std::sync::Arc;
 
 /// A picture that frames share.
 type Picture = Arc<Frame<u8>>;
 
-/// The calls that a script asks for. Its plain frames share one picture of the settings' size, which is made for the first
-/// of them; a frame of another size has a picture of its own, with the settings' sampling of chroma.
+/// The calls that a script asks for in one pass, none of which gives pass data. Its plain frames share one picture of the settings'
+/// size, which is made for the first of them; a frame of another size has a picture of its own, with the settings' sampling of chroma.
 pub fn session_calls(
     alloc: Global,
     enc: &EncoderConfig,
-    actions: &[Action],
+    asked: &[ScriptCall],
 ) -> Result<Vec<Call<u8, u64>>, OutOfMemory>
     requires wide { enc.now.width ≤ 65535 }
     requires high { enc.now.height ≤ 65535 }
+    requires acts { IsTrue (list_all is_act asked.now) }
     ensures { IfOk result (λ calls.
-        map asked_by calls.items ≡ map (asked_for enc.now) actions.now) }
+        map asked_by calls.items ≡ map (asked_for enc.now) asked.now) }
 {
     let mut picture = None;
     let mut calls = Vec::new(alloc);
-    for action in actions {
+    for call in asked {
+        let ScriptCall::Act(action) = call else {
+            unreachable!()
+        };
         calls.push(session_call(alloc, enc, *action, &mut picture)?)?;
     }
     Ok(calls)
+}
+
+/// The calls that a script asks for in two passes. Where pass data is asked for, it is taken behind each receive. The pictures are
+/// those of [`session_calls`].
+pub fn pass_calls(
+    alloc: Global,
+    enc: &EncoderConfig,
+    asked: &[ScriptCall],
+    takes: bool,
+) -> Result<Vec<PassCall<u8, u64>>, OutOfMemory>
+    requires wide { enc.now.width ≤ 65535 }
+    requires high { enc.now.height ≤ 65535 }
+    ensures { IfOk result (λ calls.
+        map asked_in_passes calls.items ≡ flat_map (asked_for_passes takes enc.now) asked.now) }
+{
+    let mut picture = None;
+    let mut calls = Vec::new(alloc);
+    for call in asked {
+        push_pass_calls(alloc, enc, call, takes, &mut picture, &mut calls)?;
+    }
+    Ok(calls)
+}
+
+fn push_pass_calls(
+    alloc: Global,
+    enc: &EncoderConfig,
+    call: &ScriptCall,
+    takes: bool,
+    picture: &mut Option<Picture>,
+    calls: &mut Vec<PassCall<u8, u64>>,
+) -> Result<(), OutOfMemory>
+    requires wide { enc.now.width ≤ 65535 }
+    requires high { enc.now.height ≤ 65535 }
+    requires made { IfSome picture.old (λ made. made.value ≡ own_picture enc.now) }
+    ensures calls { OnOk result (map asked_in_passes calls.new.items
+        ≡ map asked_in_passes calls.old.items ++ asked_for_passes takes enc.now call.now) }
+    ensures made { IfSome picture.new (λ made. made.value ≡ own_picture enc.now) }
+{
+    match call {
+        ScriptCall::Act(action) => {
+            let call = session_call(alloc, enc, *action, picture)?;
+            calls.push(PassCall::Call(call))?;
+            if takes && matches!(action, Action::Receive) {
+                calls.push(PassCall::Take)?;
+            }
+        }
+        ScriptCall::Give(message) => calls.push(PassCall::Give(message.clone()?))?,
+    }
+    Ok(())
 }
 
 fn session_call(
@@ -41,7 +96,7 @@ fn session_call(
     requires wide { enc.now.width ≤ 65535 }
     requires high { enc.now.height ≤ 65535 }
     requires made { IfSome picture.old (λ made. made.value ≡ own_picture enc.now) }
-    ensures call { IfOk result (λ call. asked_by call ≡ asked_for enc.now action) }
+    ensures call { IfOk result (λ call. asked_by call ≡ asked_in_any enc.now action) }
     ensures made { IfSome picture.new (λ made. made.value ≡ own_picture enc.now) }
 {
     match action {

@@ -12,7 +12,7 @@ mod words;
 
 pub use byte_streams::{Failed, MemSink, MemSource, Sink, Source};
 use byte_streams::{Reading, Writing};
-pub use outcome::{Layout, Outcome, Report};
+pub use outcome::{Account, Outcome, Report};
 use program::run_program;
 pub use run::{run_script, run_with};
 pub use scripted::{ScriptedCoder, ScriptedDetector, ScriptedScales};

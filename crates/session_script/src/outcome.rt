@@ -1,18 +1,23 @@
 ghost use Rattle.std.specs.Prelude.{◌≡◌, IfOk, string_bytes};
-ghost use Rattle.session_script.specs.Outcomes.{status_of, line_of, config_of, command_of, transcript_of, report_of, text_in, text_of, is_silent, cut_short, summed_up};
+ghost use Rattle.session_script.specs.Outcomes.{status_of, line_of, config_of, command_of, session_in, passes_in, transcript_of, pass_of, report_of, text_in, text_of, is_silent, cut_short, sums, summed_up};
 
 use coding_base::OutOfMemory;
-use session_core::{Transcript, Turn};
-use session_text::{ReportOptions, report_text, summary_text};
+use session_core::{PassTranscript, Transcript};
+use session_text::{ReportOptions, pass_report_text, report_text, summary_text};
 use std::alloc::Global;
 
-/// How a session's turns are told.
-#[derive(Clone, Copy, Debug, PartialEq, Eq)]
-pub enum Layout {
-    /// Each turn with its lines, and with these options.
-    Turns(ReportOptions),
-    /// All summed up.
-    Summary,
+// What a session in one pass did, and what one in two passes did.
+type Transcripts = (Option<Transcript<u8, u64>>, Option<PassTranscript<u8, u64>>);
+
+/// What a session did, and how that is told.
+#[derive(Drop)]
+pub enum Account {
+    /// A session in one pass: each turn with its lines, and with these options.
+    Turns(Transcript<u8, u64>, ReportOptions),
+    /// A session in one pass: all its turns summed up.
+    Summary(Transcript<u8, u64>),
+    /// A session in two passes: each turn with its lines, and with these options.
+    Passes(PassTranscript<u8, u64>, ReportOptions),
 }
 
 /// What the run of a script came to.
@@ -26,16 +31,16 @@ pub enum Outcome {
     TooLong,
     /// The line of this number, from 1, is the first that is no script line.
     BadLine(u64),
-    /// The pass data that the script gives is refused, by the error of this number.
+    /// Pass data that the script gives, or its summary, is refused, by the error of this number.
     RefusedPassData(u8),
     /// The configuration is refused, by the refusal of this number.
     Refused(u8),
     /// The coder failed at the command of this number, from 0.
     CoderFault(u64),
-    /// The calls were carried out, and what came of them was written in this layout.
-    Done(Transcript<u8, u64>, Layout),
+    /// The calls were carried out, and what came of them was written.
+    Done(Account),
     /// The calls were carried out, and the sink failed while that was written.
-    Unwritten(Transcript<u8, u64>, Layout),
+    Unwritten(Account),
     /// Memory ran out.
     OutOfMemory,
 }
@@ -51,8 +56,49 @@ pub struct Report {
     pub config: Option<u8>,
     /// The number of the command whose coding failed, from 0; at status 8 alone.
     pub command: Option<u64>,
-    /// What the session did; at the statuses 0 and 6 alone.
+    /// What a session in one pass did; at the statuses 0 and 6 alone.
     pub transcript: Option<Transcript<u8, u64>>,
+    /// What a session in two passes did; at the statuses 0 and 6 alone.
+    pub pass: Option<PassTranscript<u8, u64>>,
+}
+
+impl Account {
+    // What is printed.
+    fn text(&self, alloc: Global) -> Result<String, OutOfMemory>
+        ensures { IfOk result (λ text. string_bytes text ≡ text_in self.now) }
+    {
+        match self {
+            Account::Turns(transcript, options) => {
+                report_text(alloc, *options, transcript.turns.as_slice())
+            }
+            Account::Summary(transcript) => summary_text(alloc, transcript.turns.as_slice()),
+            Account::Passes(transcript, options) => {
+                pass_report_text(alloc, *options, transcript.turns.as_slice())
+            }
+        }
+    }
+
+    // What a session in one pass did, and what one in two passes did.
+    fn into_transcripts(self) -> Transcripts
+        ensures { result ≡ (session_in self, passes_in self) }
+    {
+        match self {
+            Account::Turns(transcript, _) | Account::Summary(transcript) => {
+                (Some(transcript), None)
+            }
+            Account::Passes(transcript, _) => (None, Some(transcript)),
+        }
+    }
+
+    // The same, where the turns of a session in one pass are summed up.
+    fn summed_up(self) -> Account
+        ensures { result ≡ sums self }
+    {
+        match self {
+            Account::Turns(transcript, _) => Account::Summary(transcript),
+            account => account,
+        }
+    }
 }
 
 impl Outcome {
@@ -101,12 +147,12 @@ impl Outcome {
         }
     }
 
-    fn into_transcript(self) -> Option<Transcript<u8, u64>>
-        ensures { result ≡ transcript_of self }
+    fn into_transcripts(self) -> Transcripts
+        ensures { result ≡ (transcript_of self, pass_of self) }
     {
         match self {
-            Outcome::Done(transcript, _) | Outcome::Unwritten(transcript, _) => Some(transcript),
-            _ => None,
+            Outcome::Done(account) | Outcome::Unwritten(account) => account.into_transcripts(),
+            _ => (None, None),
         }
     }
 
@@ -125,9 +171,7 @@ impl Outcome {
         ensures { IfOk result (λ text. string_bytes text ≡ text_of self.now) }
     {
         match self {
-            Outcome::Done(transcript, layout) | Outcome::Unwritten(transcript, layout) => {
-                text_in(alloc, *layout, transcript.turns.as_slice())
-            }
+            Outcome::Done(account) | Outcome::Unwritten(account) => account.text(alloc),
             Outcome::BadLine(line) => Ok(format!(in alloc; "script line {line}\n")?),
             Outcome::RefusedPassData(number) => Ok(format!(in alloc; "pass data {number}\n")?),
             Outcome::Refused(number) => Ok(format!(in alloc; "invalid config {number}\n")?),
@@ -141,7 +185,7 @@ impl Outcome {
         ensures { result ≡ cut_short self }
     {
         match self {
-            Outcome::Done(transcript, layout) => Outcome::Unwritten(transcript, layout),
+            Outcome::Done(account) => Outcome::Unwritten(account),
             outcome => outcome,
         }
     }
@@ -151,19 +195,9 @@ impl Outcome {
         ensures { result ≡ summed_up self }
     {
         match self {
-            Outcome::Done(transcript, _) => Outcome::Done(transcript, Layout::Summary),
+            Outcome::Done(account) => Outcome::Done(account.summed_up()),
             outcome => outcome,
         }
-    }
-}
-
-// The turns of a session as text.
-fn text_in(alloc: Global, layout: Layout, turns: &[Turn<u8, u64>]) -> Result<String, OutOfMemory>
-    ensures { IfOk result (λ text. string_bytes text ≡ text_in layout turns.now) }
-{
-    match layout {
-        Layout::Turns(options) => report_text(alloc, options, turns),
-        Layout::Summary => summary_text(alloc, turns),
     }
 }
 
@@ -172,12 +206,18 @@ impl Report {
     pub fn of(outcome: Outcome) -> Report
         ensures { result ≡ report_of outcome }
     {
+        let status = outcome.status();
+        let line = outcome.line();
+        let config = outcome.config();
+        let command = outcome.command();
+        let (transcript, pass) = outcome.into_transcripts();
         Report {
-            status: outcome.status(),
-            line: outcome.line(),
-            config: outcome.config(),
-            command: outcome.command(),
-            transcript: outcome.into_transcript(),
+            status,
+            line,
+            config,
+            command,
+            transcript,
+            pass,
         }
     }
 }

@@ -1,23 +1,28 @@
-ghost use Rattle.std.specs.Prelude.{◌≡◌, ◌≢◌, ◌+◌, ◌≤◌, ℕ, OnOk, Ok, None, Some};
+ghost use Rattle.std.specs.Prelude.{◌≡◌, ◌≢◌, ◌+◌, ◌≤◌, ℕ, IsTrue, OnOk, Ok, None, Some, if◌then◌else◌};
 ghost use Rattle.std.specs.List.{list_any};
+ghost use Rattle.std.specs.Result.{result_err};
+ghost use Rattle.av1_settings.specs.Checks.{IsValid};
 ghost use Rattle.byte_streams.specs.Streams.{TakesAtMost};
-ghost use Rattle.script_lines.specs.Grammar.{script_of};
+ghost use Rattle.script_lines.specs.Grammar.{GivesNothing};
+ghost use Rattle.session_core.specs.PassSessions.{passes_refusal};
 ghost use Rattle.session_script.specs.Carried.{asks_bytes, asks_index, asks_reservoir, heard_first, heard_of, options_of};
+ghost use Rattle.session_script.specs.Causes.{script_for};
 ghost use Rattle.session_script.specs.declared.run.TheConstants.{MOST_BYTES};
-ghost use Rattle.session_script.specs.declared.words.Task.TheVariants.{Generate};
+ghost use Rattle.session_script.specs.declared.words.Task.TheVariants.{Run, FirstPass, SecondPass, Generate};
 ghost use Rattle.session_script.specs.Outcomes.{IsAnswer, IsRun, IsScriptOutcome, IsSeedOutcome, IsSourceOutcome, IsTaskOutcome, IsTold, IsWritten, span, status_of};
-ghost use Rattle.session_script.specs.Words.{task_of};
+ghost use Rattle.session_script.specs.Words.{reads_script, task_of};
 
-use crate::calls::session_calls;
-use crate::outcome::{Layout, Outcome, Report};
+use crate::calls::{pass_calls, session_calls};
+use crate::outcome::{Account, Outcome, Report};
 use crate::words::{Task, task_of};
 use av1_frame::Pixel;
+use av1_settings::{Config, InvalidConfig, LevelTables};
 use byte_streams::{ReadError, Sink, Source, read_all, write_all};
 use coding_base::OutOfMemory;
 use generated_script::generated_script;
 use script_lines::{Print, Script, ScriptError, parse};
 use scripted::{ScriptedCoder, ScriptedDetector, ScriptedScales, no_levels, scripted_tables};
-use session_core::{SessionError, run_session};
+use session_core::{SessionError, run_pass_session, run_session};
 use session_text::ReportOptions;
 use std::alloc::Global;
 
@@ -28,13 +33,16 @@ pub const MOST_BYTES: usize = 1_048_576;
 const CORRUPTED: u8 = 1;
 
 /// Does what the words of the command line after the program's name ask for: `run` carries out the script that the source
-/// holds, and puts its report into the sink; `gen` and a seed of 1 to 10000 carries out the script that the seed makes, without
-/// reading the source, and puts into the sink what it came to in six lines.
+/// holds in one pass, and puts its report into the sink; `pass1` asks for pass data, takes it behind each receive, and reports it
+/// too; `pass2` is given the pass data of the script's `pass` lines. A script's summary makes a second pass, also of `pass1`, and
+/// is refused by `run`. `gen` and a seed of 1 to 10000 carries out the script that the seed makes, without reading the source,
+/// and puts into the sink what it came to in six lines.
 ///
 /// The statuses, in this order: 2 for other words; 5 for a source that fails; 7 for a source of more than 1,048,576 bytes;
 /// 3 for a line outside the grammar, the first of which is named; 10 for a summary that is refused; 4 for a configuration that
-/// is refused; 8 for a coder that fails, at a call that the script names; 6 for a sink that fails while the text is written;
-/// 0 for a text that is written whole; 9 where memory runs out, at any point.
+/// is refused; 8 for a coder that fails, at a call that the script names, or 10 for pass data that is refused, whichever comes
+/// first; 6 for a sink that fails while the text is written; 0 for a text that is written whole; 9 where memory runs out, at any
+/// point.
 pub fn run_script<R: Source, W: Sink>(
     alloc: Global,
     words: &[String],
@@ -105,26 +113,30 @@ fn carry_out<R: Source>(
     ensures unread { (seed : ℕ) → task ≡ Generate seed → source.new ≡ source.old }
 {
     match task {
-        Task::Run => carry_out_source(alloc, source, coder, detector, scales),
         Task::Generate(seed) => carry_out_seed(alloc, seed, coder, detector, scales),
+        Task::Run | Task::FirstPass | Task::SecondPass => {
+            carry_out_source(alloc, task, source, coder, detector, scales)
+        }
     }
 }
 
 // Reads a script and carries it out.
 fn carry_out_source<R: Source>(
     alloc: Global,
+    task: Task,
     source: &mut R,
     coder: &mut ScriptedCoder,
     detector: &mut ScriptedDetector,
     scales: &mut ScriptedScales,
 ) -> Outcome
+    requires { IsTrue (reads_script task) }
     ensures cause { IsSourceOutcome (span R.left R.faults source.old source.new)
-        (heard_of coder.new detector.new scales.new) result }
+        (heard_of coder.new detector.new scales.new) task result }
     ensures reads { TakesAtMost (MOST_BYTES + 1) (R.left source.old) (R.left source.new) }
     ensures later { R.faults source.old ≤ R.faults source.new }
 {
     match read_all(alloc, source, MOST_BYTES) {
-        Ok(bytes) => carry_out_bytes(alloc, &bytes, coder, detector, scales),
+        Ok(bytes) => carry_out_bytes(alloc, task, &bytes, coder, detector, scales),
         Err(ReadError::Failed) => Outcome::Unreadable,
         Err(ReadError::TooLong) => Outcome::TooLong,
         Err(ReadError::OutOfMemory) => Outcome::OutOfMemory,
@@ -133,18 +145,26 @@ fn carry_out_source<R: Source>(
 
 fn carry_out_bytes(
     alloc: Global,
+    task: Task,
     bytes: &[u8],
     coder: &mut ScriptedCoder,
     detector: &mut ScriptedDetector,
     scales: &mut ScriptedScales,
 ) -> Outcome
-    ensures outcome { IsScriptOutcome (heard_of coder.new detector.new scales.new)
-        (script_of bytes.now) result }
+    requires { IsTrue (reads_script task) }
+    ensures outcome { IsScriptOutcome (heard_of coder.new detector.new scales.new) task
+        (script_for task bytes.now) result }
 {
-    match parse(alloc, bytes) {
-        Ok(script) => carry_out_script(alloc, &script, coder, detector, scales),
-        Err(ScriptError::BadLine(line)) => Outcome::BadLine(line),
-        Err(ScriptError::OutOfMemory) => Outcome::OutOfMemory,
+    let script = match parse(alloc, task.dialect(), bytes) {
+        Ok(script) => script,
+        Err(ScriptError::BadLine(line)) => return Outcome::BadLine(line),
+        Err(ScriptError::OutOfMemory) => return Outcome::OutOfMemory,
+    };
+    match task {
+        Task::Run => carry_out_script(alloc, &script, coder, detector, scales),
+        Task::FirstPass => carry_out_passes(alloc, true, &script, coder, detector, scales),
+        Task::SecondPass => carry_out_passes(alloc, false, &script, coder, detector, scales),
+        Task::Generate(_) => unreachable!(),
     }
 }
 
@@ -164,7 +184,7 @@ fn carry_out_seed(
     }
 }
 
-// Carries out the calls of a script, if its configuration is valid: only then is the picture's size within its bounds.
+// Carries out the calls of a script in one pass, if its configuration is valid: only then is the picture's size within its bounds.
 fn carry_out_script(
     alloc: Global,
     script: &Script,
@@ -172,7 +192,8 @@ fn carry_out_script(
     detector: &mut ScriptedDetector,
     scales: &mut ScriptedScales,
 ) -> Outcome
-    ensures outcome { IsScriptOutcome (heard_of coder.new detector.new scales.new)
+    requires { GivesNothing script.now }
+    ensures outcome { IsScriptOutcome (heard_of coder.new detector.new scales.new) Run
         (Ok script.now) result }
 {
     let Ok(config) = script.config() else {
@@ -192,12 +213,64 @@ fn carry_out_script(
     match run_session(
         alloc, &config, &levels, &tables, detector, scales, coder, calls,
     ) {
-        Ok(transcript) => Outcome::Done(transcript, Layout::Turns(report_options(script))),
+        Ok(transcript) => Outcome::Done(Account::Turns(transcript, report_options(script))),
         Err(SessionError::CoderFault { command }) => Outcome::CoderFault(command),
         Err(SessionError::OutOfMemory) => Outcome::OutOfMemory,
         // The configuration was found valid above.
-        Err(SessionError::Invalid(_) | SessionError::PassData(_)) => unreachable!(),
+        Err(SessionError::Invalid(_)) => unreachable!(),
+        // No pass data was given.
+        Err(SessionError::PassData(_)) => unreachable!(),
     }
+}
+
+// The same in two passes.
+fn carry_out_passes(
+    alloc: Global,
+    emits: bool,
+    script: &Script,
+    coder: &mut ScriptedCoder,
+    detector: &mut ScriptedDetector,
+    scales: &mut ScriptedScales,
+) -> Outcome
+    ensures outcome { IsScriptOutcome (heard_of coder.new detector.new scales.new)
+        (if emits then FirstPass else SecondPass) (Ok script.now) result }
+{
+    let Ok(mut config) = script.config() else {
+        return Outcome::RefusedPassData(CORRUPTED);
+    };
+    config.rate_control.emit_data = emits;
+    let levels = no_levels();
+    if let Err(refusal) = check_passes(&config, &levels) {
+        return Outcome::Refused(refusal.number());
+    }
+    let Ok(calls) = pass_calls(alloc, &config.enc, script.calls.as_slice(), emits) else {
+        return Outcome::OutOfMemory;
+    };
+    let Ok(()) = begin(alloc, script, coder, detector, scales) else {
+        return Outcome::OutOfMemory;
+    };
+    let tables = scripted_tables();
+    match run_pass_session(
+        alloc, &config, &levels, &tables, detector, scales, coder, calls,
+    ) {
+        Ok(transcript) => Outcome::Done(Account::Passes(transcript, report_options(script))),
+        Err(SessionError::CoderFault { command }) => Outcome::CoderFault(command),
+        Err(SessionError::PassData(refusal)) => Outcome::RefusedPassData(refusal.number()),
+        Err(SessionError::OutOfMemory) => Outcome::OutOfMemory,
+        // The configuration was found valid above.
+        Err(SessionError::Invalid(_)) => unreachable!(),
+    }
+}
+
+// The checks of a session in two passes.
+fn check_passes(config: &Config, levels: &LevelTables) -> Result<(), InvalidConfig>
+    ensures first { result_err result ≡ passes_refusal 8 levels.now config.now }
+    ensures valid { OnOk result (IsValid config.now.enc) }
+{
+    if !config.rate_control.emit_data && config.rate_control.summary.is_none() {
+        return Err(InvalidConfig::RateControlConfigurationMismatch);
+    }
+    config.validate_for_pixel(levels, <u8 as Pixel>::BITS)
 }
 
 // Makes coder, detector and mean scales anew, by the rules of a script.

@@ -5,6 +5,7 @@ mod rate_control;
 mod receives_anywhere;
 mod receives_behind_the_flush;
 mod setting_lines;
+mod two_passes;
 
 use crate::help::HELP_LINES;
 use crate::program::run_program;
@@ -61,8 +62,13 @@ fn words(alloc: Global, texts: &[&str]) -> Result<Vec<String>, OutOfMemory> {
 
 // The report of a run.
 fn run(alloc: Global, case: &Case<'_>) -> Result<(Report, MemSink), OutOfMemory> {
+    run_as(alloc, "run", case)
+}
+
+// The report of what one word asks for.
+fn run_as(alloc: Global, word: &str, case: &Case<'_>) -> Result<(Report, MemSink), OutOfMemory> {
     let mut sink = case.sink(alloc)?;
-    let words = words(alloc, &["run"])?;
+    let words = words(alloc, &[word])?;
     let report = run_script(alloc, &words, &mut case.source(alloc)?, &mut sink);
     Ok((report, sink))
 }
@@ -94,6 +100,7 @@ fn rows_have_their_reports(rt: HostRuntime) -> Result<(), Fail> {
         assert_eq!(rt; report.status, row.status, "{name}");
         assert_eq!(rt; sink.bytes(), row.text.as_bytes(), "{name}");
         assert_eq!(rt; report.transcript.is_some(), row.status == 0, "{name}");
+        assert!(rt; report.pass.is_none(), "{name}");
         assert_eq!(rt; report.line.is_some(), row.status == 3, "{name}");
         assert_eq!(rt; report.config.is_some(), row.status == 4, "{name}");
         assert_eq!(rt; report.command.is_some(), row.status == 8, "{name}");
@@ -247,7 +254,10 @@ fn a_seed_makes_the_same_script_each_time(rt: HostRuntime) -> Result<(), Fail> {
 
 #[test]
 fn other_words_do_nothing(rt: HostRuntime) -> Result<(), Fail> {
-    let cases: [&[&str]; 17] = [
+    let cases: [&[&str]; 20] = [
+        &["pass1", "x"],
+        &["pass3"],
+        &["pass"],
         &["gen"],
         &["gen", ""],
         &["gen", "0"],

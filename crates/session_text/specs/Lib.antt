@@ -1,3 +1,4 @@
 pub mod CommandLines
+pub mod PassLines
 pub mod ReportLines
 pub mod SummaryLines

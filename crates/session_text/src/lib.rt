@@ -2,11 +2,13 @@
 #![tactic(auto)]
 
 mod command_lines;
+mod pass_report;
 mod report;
 mod summary;
 #[cfg(test)]
 mod tests;
 
 pub use command_lines::write_command;
+pub use pass_report::pass_report_text;
 pub use report::{ReportOptions, report_text};
 pub use summary::summary_text;

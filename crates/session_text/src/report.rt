@@ -39,7 +39,8 @@ pub fn report_text<T, O>(
     Ok(text)
 }
 
-fn write_turn<T, O>(
+/// The lines of a call, at the end of a text.
+pub fn write_turn<T, O>(
     alloc: Global,
     options: ReportOptions,
     text: &mut String,

@@ -1,8 +1,10 @@
 use super::*;
+use arrayvec::ArrayVec;
 use av1_settings::{EncoderStats, EncoderStatus, FrameType};
 use coding_base::{Bytes, Sequence};
+use pass_data::RcData;
 use pyramid::{Command, Refs};
-use session_core::{LogEntry, LogList, Packet, QuantizerParameters, Reply, Turn};
+use session_core::{LogEntry, LogList, Packet, PassTurn, QuantizerParameters, Reply, Turn};
 use std::alloc::Global;
 use std::test::Fail;
 
@@ -203,5 +205,35 @@ fn a_session_has_six_lines(rt: HostRuntime) -> Result<(), Fail> {
     let text = summary_text(alloc, &turns)?;
     let wanted = "frames 2\nkeys 1\nhidden 0\npackets 2\nbytes 4\nreservoir -3\n";
     assert_eq!(rt; text.as_str(), wanted);
+    Ok(())
+}
+
+#[test]
+fn pass_data_has_its_lines(rt: HostRuntime) -> Result<(), Fail> {
+    let alloc = rt.alloc();
+    let mut message: ArrayVec<u8, 68> = ArrayVec::new();
+    for byte in [0, 0x2a, 0xf0] {
+        message.try_push(byte).map_err(|_| "no room")?;
+    }
+    let mut log = LogList::new(alloc);
+    log.push(coded(alloc, false)?)?;
+    let mut turns: Vec<PassTurn<u8, u64>> = Vec::new(alloc);
+    turns.push(PassTurn::Given)?;
+    turns.push(PassTurn::Turn(Turn {
+        reply: Reply::Packet(packet(Sequence::from_slice(alloc, &[0x1a])?)),
+        log,
+        reservoir: Some(6),
+    }))?;
+    turns.push(PassTurn::Taken(Some(RcData::Frame(message.clone()?))))?;
+    turns.push(PassTurn::Taken(None))?;
+    turns.push(PassTurn::Taken(Some(RcData::Summary(message))))?;
+    let plain = "given\ncode 4 key refs - refresh 255 shown\nFrame 4 - Inter frame - 1 bytes\n\
+        pass 002af0\nsummary 002af0\n";
+    let whole = "given\ncode 4 key refs - refresh 255 shown\nq 78\n\
+        Frame 4 - Inter frame - 1 bytes\nbytes 1a\nreservoir 6\npass 002af0\nsummary 002af0\n";
+    for (options, wanted) in options().into_iter().zip([plain, whole]) {
+        let text = pass_report_text(alloc, options, &turns)?;
+        assert_eq!(rt; text.as_str(), wanted);
+    }
     Ok(())
 }

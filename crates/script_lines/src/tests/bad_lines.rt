@@ -1,5 +1,5 @@
 use super::first_other;
-use crate::{ScriptError, parse};
+use crate::{Dialect, ScriptError, parse};
 
 #[test]
 fn other_lines_are_bad(rt: HostRuntime) {
@@ -67,8 +67,8 @@ fn other_scripts_have_no_bad_line(rt: HostRuntime) {
 
 #[test]
 fn a_comment_alone_may_be_no_text(rt: HostRuntime) {
-    let comment = parse(rt.alloc(), b"# a comment \xff\t\r\n\nsend\n");
+    let comment = parse(rt.alloc(), Dialect::Run, b"# a comment \xff\t\r\n\nsend\n");
     assert!(rt; comment.is_ok());
-    let line = parse(rt.alloc(), b"\xff\n");
+    let line = parse(rt.alloc(), Dialect::Run, b"\xff\n");
     assert_eq!(rt; line.err(), Some(ScriptError::BadLine(1)));
 }

@@ -1,5 +1,5 @@
 use super::first_other;
-use crate::{Setting, parse};
+use crate::{Dialect, Setting, parse};
 use av1_frame::ChromaSampling;
 use av1_settings::Config;
 use pass_stats::{RateControlError, Why};
@@ -12,13 +12,13 @@ const SUMMARY: &str = "summary 5641325001000000010000000100000000000000000000000
 
 // The first setting of a script.
 fn first_setting(alloc: Global, text: &str) -> Option<Setting> {
-    let script = parse(alloc, text.as_bytes()).ok()?;
+    let script = parse(alloc, Dialect::Run, text.as_bytes()).ok()?;
     script.settings.as_slice().first().copied()
 }
 
 // The configuration of a script.
 fn configured(alloc: Global, text: &str) -> Option<Result<Config, RateControlError>> {
-    let script = parse(alloc, text.as_bytes()).ok()?;
+    let script = parse(alloc, Dialect::Run, text.as_bytes()).ok()?;
     Some(script.config())
 }
 

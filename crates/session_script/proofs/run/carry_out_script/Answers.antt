@@ -1,4 +1,4 @@
-use Rattle.std.proofs.Common.{◌≡◌, false, None, Some, Err, map, option_map, refl, sym, ap, subst₂, ◌∙◌}
+use Rattle.std.proofs.Common.{◌≡◌, false, None, Some, Err, map, inl, option_map, refl, sym, ap, subst₂, ◌∙◌}
 use Rattle.av1_settings.specs.declared.config.Config.{Config}
 use Rattle.av1_settings.specs.declared.level.LevelTables.{LevelTables}
 use Rattle.av1_settings.specs.Checks.{asks_passes, session_refusal}
@@ -6,7 +6,6 @@ use Rattle.av1_settings.specs.Invalid.{number_of}
 use Rattle.script_lines.specs.Grammar.{IsConfig, config_of, summary_refusal}
 use Rattle.scripted.specs.NoLevels.{no_levels}
 use Rattle.session_core.specs.declared.session.SessionError.TheVariants.{CoderFault}
-use Rattle.session_script.specs.declared.outcome.Layout.TheVariants.{Turns}
 use Rattle.session_script.specs.Calls.{asked_by, asked_for}
 use Rattle.session_script.proofs.Carrying.{carries, stops}
 use Rattle.session_script.proofs.ScriptConfigs.{some_cause}
@@ -14,7 +13,7 @@ use Rattle.session_script.proofs.run.carry_out_script.Goals as goal
 
 pub returns-in_default : goal.returns-in_default
 returns-in_default c = record {
-  outcome = (
+  outcome = inl (
     refl,
     some_cause c.config.result (summary_refusal c.args.script.now) c.in_default.field-0 c.in_default.is c.config.ensures.refused c.config.ensures.never_version,
   );
@@ -40,7 +39,7 @@ returns-in-Ok-run_session c =
     let calls = c.in-Ok-session_calls.calls.items in
     let asked : map asked_by calls ≡ map (asked_for config.enc) script.calls = rw c.as_slice.ensures at c.in-Ok-session_calls.ensures in
     let carried = carries script config c.no_levels-levels.result c.scripted_tables-tables.result calls _ _ made none c.no_levels-levels.ensures c.scripted_tables-tables.ensures single asked c.in-Ok-begin.ensures c.in-Ok-run_session.transcript c.in-Ok-run_session.ensures.session in
-    record { outcome = (carried, ap Turns c.report_options.ensures) }
+    record { outcome = (carried, c.report_options.ensures) }
 
 pub returns-in-Err-CoderFault : goal.returns-in-Err-CoderFault
 returns-in-Err-CoderFault c =
