@@ -1,5 +1,5 @@
 -- What a run comes to, by its cases.
-use Rattle.std.proofs.Common.{◌≡◌, ◌≢◌, ℕ, ◌+◌, ◌<◌, ◌≤◌, ◌↔◌, ◌⊎◌, inl, inr, true, false, IsTrue, ltb, IfSome, MatchOption, List, [], ◌∷◌, length, min, Option, None, Some, is_some, option_and_then, Result, Ok, Err, refl, sym, subst, ◌∙◌, arith}
+use Rattle.std.proofs.Common.{◌≡◌, ◌≢◌, ℕ, ◌+◌, ◌<◌, ◌≤◌, ◌↔◌, ◌⊎◌, inl, inr, Bool, true, false, IsTrue, ltb, IfSome, MatchOption, List, [], ◌∷◌, length, min, Option, None, Some, is_some, option_and_then, Result, Ok, Err, refl, sym, subst, ◌∙◌, arith}
 use Rattle.std.specs.Prelude.{String}
 use Rattle.std.specs.declared.alloc.Global.{Global}
 use Rattle.std.specs.Option.{option_map}
@@ -18,17 +18,16 @@ use Rattle.pass_stats.specs.declared.error.Why.{Why}
 use Rattle.pass_stats.proofs.SummaryFacts.{first_met-Summary}
 use Rattle.session_core.specs.Told.{FailsBehind, Heard}
 use Rattle.session_script.specs.declared.outcome.Account.{Account}
-use Rattle.session_script.specs.declared.outcome.Account.TheVariants.{Turns, Summary, Passes}
+use Rattle.session_script.specs.declared.outcome.Account.TheVariants.{Turns, Passes}
 use Rattle.session_script.specs.declared.outcome.Outcome.{Outcome}
 use Rattle.session_script.specs.declared.outcome.Outcome.TheVariants.{WrongWords, Unreadable, TooLong, BadLine, RefusedPassData, Refused, CoderFault, Done, Unwritten, OutOfMemory}
 use Rattle.session_script.specs.declared.run.TheConstants.{MOST_BYTES}
 use Rattle.session_script.specs.Carried.{IsValidScript}
 use Rattle.session_script.specs.Causes.{GivesData, HasRefusedPacket, HasRefusedSummary, IsCarriedOut, IsDue, IsRefused, IsStopped, NamesFault, refusal_for, script_for, status_behind}
-use Rattle.session_script.specs.Passes.{IsValidInPasses}
-use Rattle.session_script.specs.Outcomes.{EndsEarly, HasFault, IsDueFor, IsRun, IsScriptOutcome, IsSourceOutcome, IsStatus, IsTaskOutcome, IsTold, IsToldOutcome, IsWritten, Span, cut_short, status_of}
+use Rattle.session_script.specs.Outcomes.{EndsEarly, HasFault, IsDueFor, IsOfKind, IsRun, IsScriptOutcome, IsSourceOutcome, IsStatus, IsTaskOutcome, IsTold, IsToldOutcome, IsWritten, Span, cut_short, passes_in, status_of}
 use Rattle.session_script.specs.declared.words.Task.{Task}
 use Rattle.session_script.specs.declared.words.Task.TheVariants.{Run, FirstPass, SecondPass, Generate}
-use Rattle.session_script.specs.Words.{reads_script, task_of}
+use Rattle.session_script.specs.Words.{has_two_passes, reads_script, task_of}
 use Rattle.session_script.proofs.Giving.{gives}
 
 -- ---- a source that was read
@@ -255,6 +254,31 @@ exact_told sink SecondPass source heard (Unwritten account) reads h writes none 
     exact_cut sink SecondPass source heard account h (writes.unwritten refl)
 exact_told sink SecondPass source heard outcome reads h writes none = exact_by sink SecondPass source heard outcome h none
 
+-- ---- the kind of a session
+
+kind_done : (heard : Heard ℕ) (task : Task) (account : Account) (script : Result Script ℕ) → IsCarriedOut heard task account script →
+    is_some (passes_in account) ≡ has_two_passes task
+kind_done heard Run (Turns transcript options) (Ok script) h = refl
+kind_done heard FirstPass (Passes transcript options) (Ok script) h = refl
+kind_done heard SecondPass (Passes transcript options) (Ok script) h = refl
+kind_done heard task account script h = absurd h
+
+pub kind_in : (heard : Heard ℕ) (task : Task) (script : Result Script ℕ) (outcome : Outcome) → IsScriptOutcome heard task script outcome →
+    IsOfKind (has_two_passes task) outcome
+kind_in heard task script (Done account) h = kind_done heard task account script h
+kind_in heard task script (Unwritten account) h = absurd h
+kind_in heard task script outcome h = tt
+
+kind_cut : (two : Bool) (outcome : Outcome) → IsOfKind two outcome → IsOfKind two (cut_short outcome)
+kind_cut two (Done account) h = h
+kind_cut two (Unwritten account) h = h
+kind_cut two outcome h = tt
+
+kind_told : (two : Bool) (before after : Outcome) → IsOfKind two before → IsTold before after → IsOfKind two after
+kind_told two before after h (inl e) = subst (IsOfKind two) (sym e) h
+kind_told two before after h (inr (inl e)) = subst (IsOfKind two) (sym e) tt
+kind_told two before after h (inr (inr e)) = subst (IsOfKind two) (sym e) (kind_cut two before h)
+
 -- ---- the run
 
 some_same : (one other : Task) → Some one ≡ Some other → one ≡ other
@@ -275,13 +299,19 @@ module _ (words : List (String Global)) (source sink : Span) (heard : Heard ℕ)
       let same : task ≡ Generate seed = some_same task (Generate seed) (sym is ∙ asked) in
       generates_by source sink heard seed outcome (subst (λ (task : Task). IsToldOutcome source heard task outcome) same h) writes
 
+  kind_for : (task : Task) (outcome : Outcome) → task_of words ≡ Some task → IsOfKind (has_two_passes task) outcome →
+      (named : Task) → task_of words ≡ Some named → IsOfKind (has_two_passes named) outcome
+  kind_for task outcome is h named asked =
+      subst (λ (task : Task). IsOfKind (has_two_passes task) outcome) (some_same task named (sym is ∙ asked)) h
+
   module _ (task : Task) (is : task_of words ≡ Some task)
       (reads : TakesAtMost (MOST_BYTES + 1) source.known source.known_after) (later : source.faults ≤ source.faults_after) where
-    run_by : (outcome : Outcome) → IsToldOutcome source heard task outcome → IsWritten sink outcome →
-        IsRun words source sink heard outcome
-    run_by outcome cause writes = record {
+    run_by : (outcome : Outcome) → IsToldOutcome source heard task outcome → IsOfKind (has_two_passes task) outcome →
+        IsWritten sink outcome → IsRun words source sink heard outcome
+    run_by outcome cause kind writes = record {
       runs = runs_by words source heard task outcome is cause;
       cause = rw is cause;
+      kind = kind_for task outcome is kind;
       exact = exact_for task outcome is cause writes;
       generates = generates_for task outcome is cause writes;
       reads = reads;
@@ -289,12 +319,16 @@ module _ (words : List (String Global)) (source sink : Span) (heard : Heard ℕ)
       writes = writes;
     }
 
-    pub told_run : (before after : Outcome) → IsTaskOutcome source heard task before → IsTold before after →
-        IsWritten sink after → IsRun words source sink heard after
-    told_run before after h (inl e) writes =
-        subst (IsRun words source sink heard) (sym e) (run_by before (cause_same source heard task before h) (subst (IsWritten sink) e writes))
-    told_run before after h (inr (inl e)) writes =
-        subst (IsRun words source sink heard) (sym e) (run_by OutOfMemory (cause_none source heard task before h) (subst (IsWritten sink) e writes))
-    told_run before after h (inr (inr e)) writes =
-        subst (IsRun words source sink heard) (sym e)
-        (run_by (cut_short before) (cause_cut source heard task before h) (subst (IsWritten sink) e writes))
+    told_cause : (before after : Outcome) → IsTaskOutcome source heard task before → IsTold before after →
+        IsToldOutcome source heard task after
+    told_cause before after h (inl e) =
+        subst (IsToldOutcome source heard task) (sym e) (cause_same source heard task before h)
+    told_cause before after h (inr (inl e)) =
+        subst (IsToldOutcome source heard task) (sym e) (cause_none source heard task before h)
+    told_cause before after h (inr (inr e)) =
+        subst (IsToldOutcome source heard task) (sym e) (cause_cut source heard task before h)
+
+    pub told_run : (before after : Outcome) → IsTaskOutcome source heard task before → IsOfKind (has_two_passes task) before →
+        IsTold before after → IsWritten sink after → IsRun words source sink heard after
+    told_run before after h kind told writes =
+        run_by after (told_cause before after h told) (kind_told (has_two_passes task) before after kind told) writes

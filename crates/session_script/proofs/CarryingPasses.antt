@@ -1,5 +1,5 @@
 -- From the run of a session in two passes with a script's configuration to what is said of the script.
-use Rattle.std.proofs.Common.{◌≡◌, ℕ, Bool, true, false, if◌then◌else◌, List, map, Option, None, Ok, refl, sym, ap, subst, subst₂}
+use Rattle.std.proofs.Common.{◌≡◌, ℕ, Bool, true, false, if◌then◌else◌, List, map, None, Ok, refl, sym, ap, subst, subst₂}
 use Rattle.std.specs.List.{flat_map}
 use Rattle.av1_settings.specs.declared.config.Config.{Config}
 use Rattle.av1_settings.specs.declared.encoder.EncoderConfig.{EncoderConfig}

@@ -1,5 +1,5 @@
 -- A call gives pass data only where the script gives some.
-use Rattle.std.proofs.Common.{◌≡◌, ℕ, Bool, true, false, not, ◌||◌, ◌&&◌, IsTrue, List, [], ◌∷◌, ◌++◌, map, zero, suc, refl, sym, ap, ◌∙◌}
+use Rattle.std.proofs.Common.{◌≡◌, ℕ, Bool, true, false, not, ◌||◌, IsTrue, List, [], ◌∷◌, ◌++◌, map, zero, suc, refl, sym, ap, ◌∙◌}
 use Rattle.std.specs.List.{flat_map, list_all, list_any, slice_get}
 use Rattle.av1_settings.specs.declared.encoder.EncoderConfig.{EncoderConfig}
 use Rattle.script_lines.specs.declared.line.Action.{Action}

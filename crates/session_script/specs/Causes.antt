@@ -1,6 +1,6 @@
 -- What bytes are as the script of a word, and what may come of it: `run` is a session in one pass, `pass1` one that asks for pass
 -- data, and `pass2` one that doesn't ask, but may be given some.
-use Rattle.std.specs.Prelude.{◌≡◌, ◌≢◌, ℕ, ◌⊎◌, true, false, not, IsTrue, if◌then◌else◌, List, [], Option, Some, is_some, MatchOption, Result, Ok, Err}
+use Rattle.std.specs.Prelude.{◌≡◌, ◌≢◌, ℕ, true, false, not, IsTrue, if◌then◌else◌, List, [], Option, Some, is_some, MatchOption, Result, Ok, Err}
 use Rattle.std.specs.List.{list_all}
 use Rattle.std.specs.Option.{option_map}
 use Rattle.av1_settings.specs.declared.invalid.InvalidConfig.{InvalidConfig}
@@ -14,7 +14,7 @@ use Rattle.session_script.specs.declared.outcome.Account.{Account}
 use Rattle.session_script.specs.declared.outcome.Account.TheVariants.{Turns, Summary, Passes}
 use Rattle.session_script.specs.declared.run.TheConstants.{CORRUPTED}
 use Rattle.session_script.specs.declared.words.Task.{Task}
-use Rattle.session_script.specs.declared.words.Task.TheVariants.{Run, FirstPass, SecondPass, Generate}
+use Rattle.session_script.specs.declared.words.Task.TheVariants.{Run, FirstPass, SecondPass}
 use Rattle.session_script.specs.Carried.{CarriesOut, StopsAt, options_of, script_refusal}
 use Rattle.session_script.specs.Passes.{PassesCarryOut, PassesRefuse, PassesStopAt, pass_refusal}
 use Rattle.session_script.specs.Words.{dialect_of}

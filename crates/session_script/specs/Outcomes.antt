@@ -1,5 +1,5 @@
 -- The outcomes of a run: the status, the text and the report of each, and when it comes.
-use Rattle.std.specs.Prelude.{◌≡◌, ⊤, ℕ, ◌+◌, ◌≤◌, ◌⊎◌, ◌↔◌, Bool, true, false, IsTrue, nat_lt, List, [], ◌∷◌, ◌++◌, length, Option, None, Some, IfSome, MatchBool, MatchOption, Result, Err, codes, decimal, String}
+use Rattle.std.specs.Prelude.{◌≡◌, ⊤, ℕ, ◌+◌, ◌≤◌, ◌⊎◌, ◌↔◌, Bool, true, false, IsTrue, nat_lt, List, [], ◌∷◌, ◌++◌, length, Option, None, Some, is_some, option_and_then, IfSome, MatchBool, MatchOption, Result, Err, codes, decimal, String}
 use Rattle.std.specs.declared.alloc.Global.{Global}
 use Rattle.std.specs.Io.KnownBytes.{Appends, Keeps}
 use Rattle.coding_base.specs.Faults.{Rose}
@@ -20,7 +20,7 @@ use Rattle.session_script.specs.declared.run.TheConstants.{MOST_BYTES}
 use Rattle.session_script.specs.declared.words.Task.{Task}
 use Rattle.session_script.specs.declared.words.Task.TheVariants.{Generate}
 use Rattle.session_script.specs.Causes.{GivesData, HasRefusedPacket, HasRefusedSummary, IsCarriedOut, IsDue, IsGenerated, IsRefused, IsStopped, NamesFault, script_for}
-use Rattle.session_script.specs.Words.{reads_script, task_of}
+use Rattle.session_script.specs.Words.{has_two_passes, reads_script, task_of}
 
 -- ---- what an outcome answers
 
@@ -58,15 +58,17 @@ abbrev pub passes_in : Account → Option (PassTranscript ℕ ℕ)
 passes_in (Passes transcript options) = Some transcript
 passes_in account = None
 
+-- there is one at the statuses 0 and 6 alone
+abbrev pub account_of : Outcome → Option Account
+account_of (Done account) = Some account
+account_of (Unwritten account) = Some account
+account_of outcome = None
+
 abbrev pub transcript_of : Outcome → Option (Transcript ℕ ℕ)
-transcript_of (Done account) = session_in account
-transcript_of (Unwritten account) = session_in account
-transcript_of outcome = None
+transcript_of outcome = option_and_then session_in (account_of outcome)
 
 abbrev pub pass_of : Outcome → Option (PassTranscript ℕ ℕ)
-pass_of (Done account) = passes_in account
-pass_of (Unwritten account) = passes_in account
-pass_of outcome = None
+pass_of outcome = option_and_then passes_in (account_of outcome)
 
 abbrev pub report_of : Outcome → Report
 report_of outcome = record {
@@ -93,6 +95,10 @@ text_of (RefusedPassData number) = codes "pass data " ++ (decimal number ++ 10 �
 text_of (Refused number) = codes "invalid config " ++ (decimal number ++ 10 ∷ [])
 text_of (CoderFault command) = codes "coder fault " ++ (decimal command ++ 10 ∷ [])
 text_of outcome = []
+
+-- what was done is a session in two passes where that was asked for, else one in one pass
+abbrev pub IsOfKind : Bool → Outcome → Type 0
+IsOfKind two outcome = IfSome (account_of outcome) (λ account. is_some (passes_in account) ≡ two)
 
 -- the outcome where the sink failed while the text was written
 abbrev pub cut_short : Outcome → Outcome
@@ -230,6 +236,8 @@ pub record IsRun
   pub runs : (status_of outcome ≡ 2) ↔ (task_of words ≡ None)
   -- each outcome comes only where its cause is
   pub cause : IsOutcome words source heard outcome
+  -- what `pass1` and `pass2` come to is a session in two passes, and what other words come to, one in one pass
+  pub kind : (task : Task) → task_of words ≡ Some task → IsOfKind (has_two_passes task) outcome
   -- where the source doesn't fail, its bytes decide the status
   pub exact : (task : Task) → task_of words ≡ Some task → IsTrue (reads_script task) → ¬ HasFault source →
       IfSome source.known (λ bytes. IsStatus sink task bytes (status_of outcome))

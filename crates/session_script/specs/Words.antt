@@ -41,6 +41,12 @@ abbrev pub reads_script : Task → Bool
 reads_script (Generate seed) = false
 reads_script task = true
 
+-- `pass1` and `pass2` are sessions in two passes
+abbrev pub has_two_passes : Task → Bool
+has_two_passes FirstPass = true
+has_two_passes SecondPass = true
+has_two_passes task = false
+
 -- pass data can be given in a second pass alone
 abbrev pub dialect_of : Task → Dialect
 dialect_of SecondPass = SecondPassLines

@@ -4,10 +4,17 @@ pub const HELP: &str =
 prints what each call answered and what was coded, in which order.
 
 Usage: session_script run < SCRIPT
+       session_script pass1 < SCRIPT
+       session_script pass2 < SCRIPT
        session_script gen N
 
 Words:
   run           reads a script from standard input and carries it out
+  pass1         the same as a first pass: what it says of each frame, and of all
+                in the end, is taken behind each receive, and printed as the
+                lines pass HEX and summary HEX
+  pass2         the same as a second pass: the script has the summary, and what
+                was said of a frame before the receive that codes it
   gen N         carries out the script that N makes, 1 to 10000, and prints what
                 it came to in six lines; reads nothing
   --help        prints this text
@@ -52,7 +59,8 @@ marked *:
   reservoir N         frames that the bit reservoir evens out, 12 to 131072
                       (follows from keyint)
   summary HEX         a first pass's summary, 2 to 400 digits 0-9a-f, two for a
-                      byte; refused in a run, which has one pass (none)
+                      byte; makes a second pass, of pass1 too, and is refused
+                      in a run, which has one pass (none)
   cut P *             a scene begins with frame P, which is a key frame (none)
   bytes P N *         frame P has N bytes, 1 to 4096; the last line for P counts
                       (100 for a key frame, 20 for any other)
@@ -73,6 +81,8 @@ Calls, at most 100000 in all, with an N of at least 1:
                       refused where the frames have another size
   flush               says that no further frame comes
   receive, receive N  asks for one packet, or N
+  pass HEX            in pass2 alone: gives what a first pass said of a frame, 2
+                      to 136 digits
 
 Status:
   0   done: the report is printed
@@ -82,14 +92,16 @@ Status:
       height, 3 and 4 the aspect, 5 and 6 the size as it is to be shown, 7 the
       lookahead, 8 the greatest distance of key frames, 11 and 12 the time
       base, 13 the reservoir, 19 the level, 21 the quantizer, 22 the depth; or
-      14 there are switch frames without lowlatency, 15 timing with still, or
-      17 there is a summary
+      14 there are switch frames without lowlatency, 15 timing with still, 16
+      two passes without a bitrate, or 17 a summary in a run, or none in pass2
   5   standard input can't be read
   6   standard output can't be written
   7   the script has more than 1048576 bytes
   8   coder fault K: the coder failed, as fault says, behind K commands
   9   memory ran out
-  10  pass data 1: the summary's bytes are no summary
+  10  pass data N: 1 the summary's bytes are no summary; or a pass line is
+      refused, 2 as it names no kind of frame, 3 as too many frames are ahead,
+      4 as none is wanted, 5 as it has other than 8 bytes
 
 Example:
   printf 'size 64 80\\nsend 4\\nflush\\nreceive 6\\n' | session_script run
@@ -105,10 +117,17 @@ pub const HELP_LINES: &[&str] = &[
     "prints what each call answered and what was coded, in which order.",
     "",
     "Usage: session_script run < SCRIPT",
+    "       session_script pass1 < SCRIPT",
+    "       session_script pass2 < SCRIPT",
     "       session_script gen N",
     "",
     "Words:",
     "  run           reads a script from standard input and carries it out",
+    "  pass1         the same as a first pass: what it says of each frame, and of all",
+    "                in the end, is taken behind each receive, and printed as the",
+    "                lines pass HEX and summary HEX",
+    "  pass2         the same as a second pass: the script has the summary, and what",
+    "                was said of a frame before the receive that codes it",
     "  gen N         carries out the script that N makes, 1 to 10000, and prints what",
     "                it came to in six lines; reads nothing",
     "  --help        prints this text",
@@ -153,7 +172,8 @@ pub const HELP_LINES: &[&str] = &[
     "  reservoir N         frames that the bit reservoir evens out, 12 to 131072",
     "                      (follows from keyint)",
     "  summary HEX         a first pass's summary, 2 to 400 digits 0-9a-f, two for a",
-    "                      byte; refused in a run, which has one pass (none)",
+    "                      byte; makes a second pass, of pass1 too, and is refused",
+    "                      in a run, which has one pass (none)",
     "  cut P *             a scene begins with frame P, which is a key frame (none)",
     "  bytes P N *         frame P has N bytes, 1 to 4096; the last line for P counts",
     "                      (100 for a key frame, 20 for any other)",
@@ -174,6 +194,8 @@ pub const HELP_LINES: &[&str] = &[
     "                      refused where the frames have another size",
     "  flush               says that no further frame comes",
     "  receive, receive N  asks for one packet, or N",
+    "  pass HEX            in pass2 alone: gives what a first pass said of a frame, 2",
+    "                      to 136 digits",
     "",
     "Status:",
     "  0   done: the report is printed",
@@ -183,14 +205,16 @@ pub const HELP_LINES: &[&str] = &[
     "      height, 3 and 4 the aspect, 5 and 6 the size as it is to be shown, 7 the",
     "      lookahead, 8 the greatest distance of key frames, 11 and 12 the time",
     "      base, 13 the reservoir, 19 the level, 21 the quantizer, 22 the depth; or",
-    "      14 there are switch frames without lowlatency, 15 timing with still, or",
-    "      17 there is a summary",
+    "      14 there are switch frames without lowlatency, 15 timing with still, 16",
+    "      two passes without a bitrate, or 17 a summary in a run, or none in pass2",
     "  5   standard input can't be read",
     "  6   standard output can't be written",
     "  7   the script has more than 1048576 bytes",
     "  8   coder fault K: the coder failed, as fault says, behind K commands",
     "  9   memory ran out",
-    "  10  pass data 1: the summary's bytes are no summary",
+    "  10  pass data N: 1 the summary's bytes are no summary; or a pass line is",
+    "      refused, 2 as it names no kind of frame, 3 as too many frames are ahead,",
+    "      4 as none is wanted, 5 as it has other than 8 bytes",
     "",
     "Example:",
     "  printf 'size 64 80\\nsend 4\\nflush\\nreceive 6\\n' | session_script run",

@@ -9,8 +9,8 @@ ghost use Rattle.session_script.specs.Carried.{asks_bytes, asks_index, asks_rese
 ghost use Rattle.session_script.specs.Causes.{script_for};
 ghost use Rattle.session_script.specs.declared.run.TheConstants.{MOST_BYTES};
 ghost use Rattle.session_script.specs.declared.words.Task.TheVariants.{Run, FirstPass, SecondPass, Generate};
-ghost use Rattle.session_script.specs.Outcomes.{IsAnswer, IsRun, IsScriptOutcome, IsSeedOutcome, IsSourceOutcome, IsTaskOutcome, IsTold, IsWritten, span, status_of};
-ghost use Rattle.session_script.specs.Words.{reads_script, task_of};
+ghost use Rattle.session_script.specs.Outcomes.{IsAnswer, IsOfKind, IsRun, IsScriptOutcome, IsSeedOutcome, IsSourceOutcome, IsTaskOutcome, IsTold, IsWritten, span, status_of};
+ghost use Rattle.session_script.specs.Words.{has_two_passes, reads_script, task_of};
 
 use crate::calls::{pass_calls, session_calls};
 use crate::outcome::{Account, Outcome, Report};
@@ -108,6 +108,7 @@ fn carry_out<R: Source>(
 ) -> Outcome
     ensures cause { IsTaskOutcome (span R.left R.faults source.old source.new)
         (heard_of coder.new detector.new scales.new) task result }
+    ensures kind { IsOfKind (has_two_passes task) result }
     ensures reads { TakesAtMost (MOST_BYTES + 1) (R.left source.old) (R.left source.new) }
     ensures later { R.faults source.old ≤ R.faults source.new }
     ensures unread { (seed : ℕ) → task ≡ Generate seed → source.new ≡ source.old }
@@ -132,6 +133,7 @@ fn carry_out_source<R: Source>(
     requires { IsTrue (reads_script task) }
     ensures cause { IsSourceOutcome (span R.left R.faults source.old source.new)
         (heard_of coder.new detector.new scales.new) task result }
+    ensures kind { IsOfKind (has_two_passes task) result }
     ensures reads { TakesAtMost (MOST_BYTES + 1) (R.left source.old) (R.left source.new) }
     ensures later { R.faults source.old ≤ R.faults source.new }
 {

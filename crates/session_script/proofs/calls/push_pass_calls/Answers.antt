@@ -1,7 +1,7 @@
-use Rattle.std.proofs.Common.{◌≡◌, [], ◌∷◌, ◌++◌, map, sym, ap, ◌∙◌}
+use Rattle.std.proofs.Common.{◌≡◌, ◌∙◌}
 use Rattle.std.proofs.lemmas.List.{map-append, map-id}
 use Rattle.std.proofs.lemmas.Slice.Zip.{AllZip-map}
-use Rattle.session_script.specs.Calls.{asked_for_passes, asked_in_passes}
+use Rattle.session_script.specs.Calls.{asked_in_passes}
 use Rattle.session_script.proofs.calls.push_pass_calls.Goals as goal
 
 pub returns-in_ok-push-in-Give-clause-calls : goal.returns-in_ok-push-in-Give-clause-calls
