@@ -58,17 +58,17 @@ module _ {T : Type 0} (enc : EncoderConfig) (tables : Tables) (ahead : MakerTold
   unkeyed-gave : (packets : List (Packet T ⊤)) (gave : GavePackets enc tables ahead pictures packets) → Unkeyed gave.session.transcript.decisions
   unkeyed-gave packets gave =
       let answered : All (λ decision. decision.forced ≡ false → decision.key ≡ false) gave.session.transcript.decisions =
-      subst (λ (d : DetectorTold T). AreAnswered d.answers gave.session.transcript.decisions) gave.fresh.detector gave.session.run.asked.ahead in
+      subst (λ (d : DetectorTold T). AreAnswered d.answers gave.session.transcript.decisions) gave.fresh.detector gave.session.run.played.asked.ahead in
       unkeyed-run gave.session.calls gave.session.calls gave.session.transcript.turns gave.session.transcript.decisions
-      (job-calls-same enc pictures gave.session.calls gave.session.calls gave.session.calls_are gave.session.calls_are) gave.session.run.keys answered
+      (job-calls-same enc pictures gave.session.calls gave.session.calls gave.session.calls_are gave.session.calls_are) gave.session.run.played.keys answered
 
   unkeyed-met : (command : ℕ) (coder : CoderTold T) (met : MetFault enc tables ahead pictures command coder) → Unkeyed met.session.fails.decisions
   unkeyed-met command coder met =
       let answered : All (λ decision. decision.forced ≡ false → decision.key ≡ false) met.session.fails.decisions =
-      subst (λ (d : DetectorTold T). AreAnswered d.answers met.session.fails.decisions) met.fresh.detector met.session.fails.asked.ahead in
+      subst (λ (d : DetectorTold T). AreAnswered d.answers met.session.fails.decisions) met.fresh.detector met.session.fails.stopped.asked.ahead in
       unkeyed-run (take met.session.fails.done met.session.calls) (take met.session.fails.done met.session.calls) met.session.fails.turns met.session.fails.decisions
       (same-take met.session.fails.done met.session.calls met.session.calls (job-calls-same enc pictures met.session.calls met.session.calls met.session.calls_are met.session.calls_are))
-      met.session.fails.keys answered
+      met.session.fails.stopped.keys answered
 
   -- the moment of the fault
   moment_of : (command : ℕ) (coder : CoderTold T) → MetFault enc tables ahead pictures command coder → Moment T ⊤
@@ -78,12 +78,12 @@ module _ {T : Type 0} (enc : EncoderConfig) (tables : Tables) (ahead : MakerTold
       slice_get (plan_at (job_settings enc) (moment_of command coder met)) (moment_of command coder met).commands ≡ Some met.session.fails.command
   unfolding moment_of
   next-is command coder met =
-      ap (λ (n : ℕ). slice_get (plan_at (job_settings enc) (moment_of command coder met)) n) met.session.fails.due.next ∙ met.session.fails.due.command_of
+      ap (λ (n : ℕ). slice_get (plan_at (job_settings enc) (moment_of command coder met)) n) met.session.fails.stopped.due.next ∙ met.session.fails.stopped.due.command_of
 
   tries : (command : ℕ) (coder : CoderTold T) (met : MetFault enc tables ahead pictures command coder) →
       length met.session.fails.trials + 1 ≤ calls_for (is_trial_due (job_settings enc) (moment_of command coder met).log met.session.fails.command)
   unfolding moment_of
-  tries command coder met = few-trials _ met.session.fails.command met.session.fails.trials met.session.fails.tried.0 met.session.fails.tried.1
+  tries command coder met = few-trials _ met.session.fails.command met.session.fails.trials met.session.fails.stopped.tried.0 met.session.fails.stopped.tried.1
 
   pub apart : (packets : List (Packet T ⊤)) (command : ℕ) (coder : CoderTold T) → IsSome ahead.fails_after → GavePackets enc tables ahead pictures packets →
       MetFault enc tables ahead pictures command coder → ⊥
@@ -94,16 +94,16 @@ module _ {T : Type 0} (enc : EncoderConfig) (tables : Tables) (ahead : MakerTold
       by None is known = false≢true known
       by (Some None) is known =
           subst (λ (o : Option (Option ℕ)). FailsBehind o (length (entries_of met.session.fails.turns ++ met.session.fails.trials)))
-          (fails-of met.before.coder None met.fresh.coder is) met.session.fails.reached
+          (fails-of met.before.coder None met.fresh.coder is) met.session.fails.stopped.reached
       by (Some (Some left)) is known =
           let few : length (entries_of gave.session.transcript.turns) ≤ left =
-          subst (λ (o : Option (Option ℕ)). AreBeforeFault o (length (entries_of gave.session.transcript.turns))) (fails-of gave.before.coder (Some left) gave.fresh.coder is) gave.session.run.unreached in
+          subst (λ (o : Option (Option ℕ)). AreBeforeFault o (length (entries_of gave.session.transcript.turns))) (fails-of gave.before.coder (Some left) gave.fresh.coder is) gave.session.run.played.unreached in
           let all : left ≡ length (entries_of met.session.fails.turns ++ met.session.fails.trials) =
-          subst (λ (o : Option (Option ℕ)). FailsBehind o (length (entries_of met.session.fails.turns ++ met.session.fails.trials))) (fails-of met.before.coder (Some left) met.fresh.coder is) met.session.fails.reached in
+          subst (λ (o : Option (Option ℕ)). FailsBehind o (length (entries_of met.session.fails.turns ++ met.session.fails.trials))) (fails-of met.before.coder (Some left) met.fresh.coder is) met.session.fails.stopped.reached in
           let most = reaches (job_settings enc) met.session.fails.decisions gave.session.transcript.decisions (unkeyed-met command coder met) (unkeyed-gave packets gave)
           met.session.fails.done met.session.calls gave.session.calls met.session.fails.turns gave.session.transcript.turns opening opening met.session.fails.command
           (job-calls-same enc pictures met.session.calls gave.session.calls met.session.calls_are gave.session.calls_are)
-          met.session.fails.at_receive met.session.fails.answered gave.session.run.turns opening-alike met.session.fails.due.due (next-is command coder met) in
+          met.session.fails.at_receive met.session.fails.stopped.answered gave.session.run.played.turns opening-alike met.session.fails.stopped.due.due (next-is command coder met) in
           omega (arith, few, all, most, tries command coder met, length-append (entries_of met.session.fails.turns) met.session.fails.trials)
 
   -- of two faults none comes earlier
@@ -119,21 +119,21 @@ module _ {T : Type 0} (enc : EncoderConfig) (tables : Tables) (ahead : MakerTold
       by None is known = false≢true known
       by (Some None) is known =
           subst (λ (o : Option (Option ℕ)). FailsBehind o (length (entries_of met.session.fails.turns ++ met.session.fails.trials)))
-          (fails-of met.before.coder None met.fresh.coder is) met.session.fails.reached
+          (fails-of met.before.coder None met.fresh.coder is) met.session.fails.stopped.reached
       by (Some (Some left)) is known =
           let one : left ≡ length (entries_of met.session.fails.turns ++ met.session.fails.trials) =
-          subst (λ (o : Option (Option ℕ)). FailsBehind o (length (entries_of met.session.fails.turns ++ met.session.fails.trials))) (fails-of met.before.coder (Some left) met.fresh.coder is) met.session.fails.reached in
+          subst (λ (o : Option (Option ℕ)). FailsBehind o (length (entries_of met.session.fails.turns ++ met.session.fails.trials))) (fails-of met.before.coder (Some left) met.fresh.coder is) met.session.fails.stopped.reached in
           let two : left ≡ length (entries_of too.session.fails.turns ++ too.session.fails.trials) =
-          subst (λ (o : Option (Option ℕ)). FailsBehind o (length (entries_of too.session.fails.turns ++ too.session.fails.trials))) (fails-of too.before.coder (Some left) too.fresh.coder is) too.session.fails.reached in
+          subst (λ (o : Option (Option ℕ)). FailsBehind o (length (entries_of too.session.fails.turns ++ too.session.fails.trials))) (fails-of too.before.coder (Some left) too.fresh.coder is) too.session.fails.stopped.reached in
           let most : length (entries_of met.session.fails.turns) + calls_for (is_trial_due (job_settings enc) (moment_of command coder met).log met.session.fails.command) ≤ length (entries_of too.session.fails.turns) =
           subst (λ (l : List (Call T ⊤)). length (entries_of met.session.fails.turns) + calls_for (is_trial_due (job_settings enc) (moment_after (job_settings enc) met.session.fails.decisions l met.session.fails.turns).log met.session.fails.command) ≤ length (entries_of too.session.fails.turns)) cut
           (reaches (job_settings enc) met.session.fails.decisions too.session.fails.decisions (unkeyed-met command coder met) (unkeyed-met other other_coder too)
           met.session.fails.done (take too.session.fails.done met.session.calls) (take too.session.fails.done too.session.calls) met.session.fails.turns too.session.fails.turns opening opening met.session.fails.command
           (same-take too.session.fails.done met.session.calls too.session.calls (job-calls-same enc pictures met.session.calls too.session.calls met.session.calls_are too.session.calls_are))
           (at-take met.session.fails.done too.session.fails.done met.session.calls _ less met.session.fails.at_receive)
-          (subst (λ (l : List (Call T ⊤)). Runs (IsTurn (job_settings enc) met.session.fails.decisions) (after_turn (job_settings enc) met.session.fails.decisions) opening l met.session.fails.turns) (sym cut) met.session.fails.answered)
-          too.session.fails.answered opening-alike
-          (subst (λ (l : List (Call T ⊤)). held_back (job_settings enc) (moment_after (job_settings enc) met.session.fails.decisions l met.session.fails.turns) ≡ None) (sym cut) met.session.fails.due.due)
+          (subst (λ (l : List (Call T ⊤)). Runs (IsTurn (job_settings enc) met.session.fails.decisions) (after_turn (job_settings enc) met.session.fails.decisions) opening l met.session.fails.turns) (sym cut) met.session.fails.stopped.answered)
+          too.session.fails.stopped.answered opening-alike
+          (subst (λ (l : List (Call T ⊤)). held_back (job_settings enc) (moment_after (job_settings enc) met.session.fails.decisions l met.session.fails.turns) ≡ None) (sym cut) met.session.fails.stopped.due.due)
           (subst (λ (l : List (Call T ⊤)). slice_get (plan_at (job_settings enc) (moment_after (job_settings enc) met.session.fails.decisions l met.session.fails.turns)) (moment_after (job_settings enc) met.session.fails.decisions l met.session.fails.turns).commands ≡ Some met.session.fails.command) (sym cut) (next-is command coder met))) in
           omega (arith, one, two, most, tries command coder met, length-append (entries_of met.session.fails.turns) met.session.fails.trials, length-append (entries_of too.session.fails.turns) too.session.fails.trials)
 
@@ -150,6 +150,6 @@ module _ {T : Type 0} (enc : EncoderConfig) (tables : Tables) (ahead : MakerTold
         (same-take met.session.fails.done met.session.calls too.session.calls (job-calls-same enc pictures met.session.calls too.session.calls met.session.calls_are too.session.calls_are)) in
         let alike = calls-alike (job_settings enc) met.session.fails.decisions too.session.fails.decisions (unkeyed-met command coder met) (unkeyed-met other other_coder too)
         (take met.session.fails.done met.session.calls) (take too.session.fails.done too.session.calls) met.session.fails.turns too.session.fails.turns opening opening calls
-        met.session.fails.answered too.session.fails.answered opening-alike in
-        sym met.session.fails.due.next ∙ alike.commands ∙ too.session.fails.due.next
+        met.session.fails.stopped.answered too.session.fails.stopped.answered opening-alike in
+        sym met.session.fails.stopped.due.next ∙ alike.commands ∙ too.session.fails.stopped.due.next
   ]
