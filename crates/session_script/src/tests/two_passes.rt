@@ -236,16 +236,29 @@ fn a_second_pass_takes_what_a_first_hands_on(rt: HostRuntime) -> Result<(), Fail
     let coded = commands(alloc, &second)?;
     assert_eq!(rt; coded.len(), 14);
     assert_eq!(rt; commands(alloc, &first)?.as_slice(), coded.as_slice());
-    let mut packets = 0;
-    for turn in second.turns.as_slice() {
-        if let PassTurn::Turn(turn) = turn {
-            let waits = matches!(turn.reply, Reply::Status(EncoderStatus::NotReady));
-            assert!(rt; !waits && turn.reservoir.is_some());
-            packets += matches!(turn.reply, Reply::Packet(_)) as u32;
-        }
-    }
+    let turns = second.turns.as_slice();
+    assert!(rt; turns.iter().all(goes_on));
+    let packets = turns.iter().filter(|turn| is_packet(turn)).count();
     assert_eq!(rt; packets, 10);
     Ok(())
+}
+
+// A call that didn't wait for pass data, with what the reservoir holds then.
+fn goes_on(turn: &PassTurn<u8, u64>) -> bool {
+    match turn {
+        PassTurn::Turn(turn) => {
+            !matches!(turn.reply, Reply::Status(EncoderStatus::NotReady))
+                && turn.reservoir.is_some()
+        }
+        _ => true,
+    }
+}
+
+fn is_packet(turn: &PassTurn<u8, u64>) -> bool {
+    match turn {
+        PassTurn::Turn(turn) => matches!(turn.reply, Reply::Packet(_)),
+        _ => false,
+    }
 }
 
 fn is_data(line: &str) -> bool {
