@@ -52,7 +52,7 @@ unkeyed-take zero decisions un = tt
 unkeyed-take (suc k) [] un = tt
 unkeyed-take (suc k) (one ∷ decisions) un = (un.0, unkeyed-take k decisions un.1)
 
-plan_by : EncoderConfig → ℕ → List Command
+unfoldable pub plan_by : EncoderConfig → ℕ → List Command
 plan_by enc accepted = plan (numbers_of enc) (interval_of enc.max_key_frame_interval) accepted (keys_of accepted [])
 
 held_with : EncoderConfig → ℕ → Bool → ℕ → ℕ → List ℕ → Option EncoderStatus
@@ -70,7 +70,7 @@ due_by : EncoderConfig → List Command → Command → Bool
 due_by enc commands command =
     is_coding command && (int_lt (pos 0) (start_of enc).bitrate && eqb (length (filter (of_subtype (subtype_of command)) commands)) 0)
 
-plan-is : {T : Type 0} (enc : EncoderConfig) (m : Moment T ⊤) → Unkeyed m.decisions → plan_at enc m ≡ plan_by enc m.accepted
+pub plan-is : {T : Type 0} (enc : EncoderConfig) (m : Moment T ⊤) → Unkeyed m.decisions → plan_at enc m ≡ plan_by enc m.accepted
 unfolding plan_by
 plan-is enc m un = ap (plan (numbers_of enc) (interval_of enc.max_key_frame_interval) m.accepted) (keys-unkeyed m.accepted m.decisions un)
 

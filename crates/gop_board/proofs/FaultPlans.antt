@@ -40,7 +40,7 @@ use Rattle.gop_board.proofs.SameCalls.{SameCalls, Unkeyed, job-calls-same, unkey
 
 -- ---- frames that are accepted
 
-sends : {T : Type 0} → List (Call T ⊤) → ℕ
+unfoldable pub sends : {T : Type 0} → List (Call T ⊤) → ℕ
 sends [] = 0
 sends (Send frame parameters ∷ calls) = 1 + sends calls
 sends (Flush ∷ calls) = sends calls
@@ -69,7 +69,7 @@ sends-sends {T} enc number (frame ∷ frames) =
       sends-sends enc (number + 1) frames,
     )
 
-sends-job : {T : Type 0} (enc : EncoderConfig) (frames : List (Arc (Frame T) Global)) → sends (job_calls enc frames) ≡ length frames
+pub sends-job : {T : Type 0} (enc : EncoderConfig) (frames : List (Arc (Frame T) Global)) → sends (job_calls enc frames) ≡ length frames
 unfolding sends
 sends-job {T} enc frames =
     omega (
@@ -93,7 +93,7 @@ send-bound enc D m frame Flushed = omega arith
 send-bound enc D m frame (GivesPacket packet) = omega arith
 send-bound enc D m frame (Status status) = omega arith
 
-receive-accepted : {T : Type 0} (m : Moment T ⊤) (log : List LogEntry) (reply : Reply T ⊤) → (after_receive m log reply).accepted ≡ m.accepted
+pub receive-accepted : {T : Type 0} (m : Moment T ⊤) (log : List LogEntry) (reply : Reply T ⊤) → (after_receive m log reply).accepted ≡ m.accepted
 receive-accepted m log (Sent number) = refl
 receive-accepted m log Flushed = refl
 receive-accepted m log (GivesPacket packet) = refl
@@ -134,7 +134,7 @@ same-take (suc k) (call ∷ calls) (other ∷ others) same = (same.0, same-take 
 -- ---- all frames are accepted before the flush
 
 -- sends behind a flush
-late : {T : Type 0} → List (Call T ⊤) → ℕ
+unfoldable pub late : {T : Type 0} → List (Call T ⊤) → ℕ
 late [] = 0
 late (Send frame parameters ∷ calls) = late calls
 late (Flush ∷ calls) = sends calls
@@ -153,7 +153,7 @@ late-sends {T} enc number (frame ∷ frames) rest =
     ∙ late-receives (done_before enc number - done_before enc (number - 1)) (Send frame None ∷ (sends_from enc (number + 1) frames ++ rest))
     ∙ late-sends enc (number + 1) frames rest
 
-late-job : {T : Type 0} (enc : EncoderConfig) (frames : List (Arc (Frame T) Global)) → late (job_calls enc frames) ≡ 0
+pub late-job : {T : Type 0} (enc : EncoderConfig) (frames : List (Arc (Frame T) Global)) → late (job_calls enc frames) ≡ 0
 unfolding late
 late-job {T} enc frames =
     late-sends enc 0 frames (Flush ∷ replicate (length (job_plan enc (length frames)) - done_before enc (length frames - 1)) Receive)
@@ -167,7 +167,7 @@ late-take (suc k) (Send frame parameters ∷ calls) = late-take k calls
 late-take (suc k) (Flush ∷ calls) = sends-take k calls
 late-take (suc k) (Receive ∷ calls) = late-take k calls
 
-send-flushed : {T : Type 0} (enc : EncoderConfig) (D : List Decision) (m : Moment T ⊤) (frame : Accepted T ⊤) (reply : Reply T ⊤) → (after_send enc D m frame reply).flushed ≡ m.flushed
+pub send-flushed : {T : Type 0} (enc : EncoderConfig) (D : List Decision) (m : Moment T ⊤) (frame : Accepted T ⊤) (reply : Reply T ⊤) → (after_send enc D m frame reply).flushed ≡ m.flushed
 send-flushed enc D m frame (Sent number) = refl
 send-flushed enc D m frame Flushed = refl
 send-flushed enc D m frame (GivesPacket packet) = refl
@@ -179,7 +179,7 @@ send-rises enc D m frame Flushed = omega arith
 send-rises enc D m frame (GivesPacket packet) = omega arith
 send-rises enc D m frame (Status status) = omega arith
 
-receive-flushed : {T : Type 0} (m : Moment T ⊤) (log : List LogEntry) (reply : Reply T ⊤) → (after_receive m log reply).flushed ≡ m.flushed
+pub receive-flushed : {T : Type 0} (m : Moment T ⊤) (log : List LogEntry) (reply : Reply T ⊤) → (after_receive m log reply).flushed ≡ m.flushed
 receive-flushed m log (Sent number) = refl
 receive-flushed m log Flushed = refl
 receive-flushed m log (GivesPacket packet) = refl
@@ -216,7 +216,7 @@ still-false : (still : Bool) (accepted : ℕ) → (still ≡ true → accepted +
 still-false false accepted few = refl
 still-false true accepted few = let none : accepted ≡ 0 = omega (arith, few refl) in ap (λ (n : ℕ). leb 1 n) none
 
-sent-ok : {T : Type 0} (enc : EncoderConfig) (m : Moment T ⊤) (picture : Frame T) → m.flushed ≡ false → (enc.still_picture ≡ true → m.accepted + 1 ≤ 1) → m.accepted + 1 ≤ 2147483646 →
+pub sent-ok : {T : Type 0} (enc : EncoderConfig) (m : Moment T ⊤) (picture : Frame T) → m.flushed ≡ false → (enc.still_picture ≡ true → m.accepted + 1 ≤ 1) → m.accepted + 1 ≤ 2147483646 →
     fits picture enc.width enc.height enc.chroma_sampling ≡ true → sent_reply enc m picture ≡ Sent m.accepted
 sent-ok {T} enc m picture going few within fit =
     ap₂ (λ (enough fit : Bool). cond enough (status EnoughData) (cond fit (Sent m.accepted) (status FrameSizeMismatch))) has fit
@@ -229,7 +229,7 @@ sent-ok {T} enc m picture going few within fit =
         (or-false m.flushed (enc.still_picture && nat_le 1 m.accepted) going (still-false enc.still_picture m.accepted few)) (ne_eqb m.accepted 2147483646 (omega arith))
 
 -- the frames of these calls fit
-Fit : {T : Type 0} → EncoderConfig → List (Call T ⊤) → Type 0
+unfoldable pub Fit : {T : Type 0} → EncoderConfig → List (Call T ⊤) → Type 0
 Fit enc [] = ⊤
 Fit enc (Send frame parameters ∷ calls) = (fits frame.value enc.width enc.height enc.chroma_sampling ≡ true) × Fit enc calls
 Fit enc (Flush ∷ calls) = Fit enc calls
@@ -264,7 +264,7 @@ fit-sends {T} enc settings number (frame ∷ frames) all =
     (fit-receives T enc (done_before settings number - done_before settings (number - 1)))
     (all 0 frame.value (omega arith), fit-sends enc settings (number + 1) frames (λ k d within. all (suc k) d (omega arith)))
 
-fit-job : {T : Type 0} (enc settings : EncoderConfig) (frames : List (Arc (Frame T) Global)) →
+pub fit-job : {T : Type 0} (enc settings : EncoderConfig) (frames : List (Arc (Frame T) Global)) →
     All (λ picture. fits picture enc.width enc.height enc.chroma_sampling ≡ true) (map (λ frame. frame.value) frames) → Fit enc (job_calls settings frames)
 unfolding Fit
 fit-job {T} enc settings frames all =

@@ -16,5 +16,7 @@ mod SameEntries
 mod SameJobs
 mod SameRuns
 mod Sending
+mod JobsAlone
+mod SameBytes
 mod Runs
 mod Splitting

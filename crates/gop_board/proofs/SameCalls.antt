@@ -77,7 +77,7 @@ job-calls-same {T} enc pictures calls others one other =
 -- ---- no keys are decided
 
 -- no frame was sent as a key
-abbrev Plain : {T : Type 0} → List (Accepted T ⊤) → Type 0
+abbrev pub Plain : {T : Type 0} → List (Accepted T ⊤) → Type 0
 Plain [] = ⊤
 Plain (accepted ∷ more) = (accepted.forced ≡ false) × Plain more
 
@@ -127,7 +127,7 @@ pub unkeyed-rest : (front rest : List Decision) → Unkeyed (front ++ rest) → 
 unkeyed-rest [] rest h = h
 unkeyed-rest (one ∷ front) rest h = unkeyed-rest front rest h.1
 
-unkeyed-all : {T : Type 0} (sent : List (Accepted T ⊤)) (decisions : List Decision) (from : ℕ) → Plain sent →
+pub unkeyed-all : {T : Type 0} (sent : List (Accepted T ⊤)) (decisions : List Decision) (from : ℕ) → Plain sent →
     map (λ decision. decision.forced) decisions ≡ map (λ position. option_map_or (λ accepted. accepted.forced) (slice_get sent position) false) (range_with_len from (length decisions)) →
     All (λ decision. decision.forced ≡ false → decision.key ≡ false) decisions → Unkeyed decisions
 unkeyed-all sent [] from plain forced keys = tt

@@ -2,6 +2,7 @@
 -- JobCalls, the calls of a job's session; JobSessions, which results are a job's; Handing, how job numbers are handed out; Rows,
 -- the results of jobs on a board; Packets, their packets in order; then, of the core, Core, what its steps do; Places, where each
 -- job stands; CoreRuns, whole lists of steps and the laws over them.
+pub mod Alone
 pub mod Core
 pub mod CoreFields
 pub mod CoreRuns

@@ -1,6 +1,7 @@
 //! What holds of every list of steps from the opening on, each law as the contract of a function that does nothing;
 //! `specs/CoreRuns`, `specs/Packets` and, of one job, `specs/JobLaws` spell them out.
 
+ghost use Rattle.gop_board.specs.Alone.{PacketsHaveTheSameBytes};
 ghost use Rattle.gop_board.specs.JobLaws.{FaultsAreOnThePlan, PacketsAreDetermined};
 ghost use Rattle.gop_board.specs.FaultLaws.{FaultsAreDetermined};
 ghost use Rattle.gop_board.specs.CoreRuns.{JobsAreCollectedInOrder, JobsStandAtOnePlace};
@@ -41,4 +42,11 @@ pub fn faults_are_on_the_plan<T, M: MakeSession<T>>()
 /// has one command.
 pub fn faults_are_determined<T, M: MakeSession<T>>()
     ensures { FaultsAreDetermined M.told }
+{}
+
+/// Without a bitrate, where a maker tells what a job's coder gives and its mean scales, a job's packets have the bytes of those of
+/// any session with the same settings over the same frames, sent without parameters, that finds no scene change: packet by packet,
+/// as far as both gave some.
+pub fn packets_have_the_same_bytes<T, M: MakeSession<T>>()
+    ensures { PacketsHaveTheSameBytes M.told }
 {}
