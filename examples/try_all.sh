@@ -153,6 +153,28 @@ wanted 'no memory' 9 '' $?
 run 'size 65535 65535\nflush\nreceive\n' run
 wanted 'no picture' 0 'flushed\nlimit-reached\n' $?
 
+# Status 10: a summary or pass data that is refused.
+run 'bitrate 30000\nsummary 00\nsend\nflush\nreceive\n' pass2
+wanted 'a summary of one byte' 10 'pass data 1\n' $?
+
+# Two passes: what the first one says of its frames and of all goes into the script of the second, where no receive waits then.
+coded='trial 0\ncode 0 key refs - refresh 255 shown\nFrame 0 - Key frame - 102 bytes\n'
+run 'bitrate 30000\nsend\nflush\nreceive 2\n' pass1
+status=$?
+grep '^summary ' "$work/out" >"$work/summary"
+grep '^pass ' "$work/out" >"$work/pass"
+grep -v '^summary \|^pass ' "$work/out" >"$work/rest"
+mv "$work/rest" "$work/out"
+wanted 'a first pass' 0 "sent 0\nflushed\n${coded}limit-reached\n" $status
+summary=$(cat "$work/summary")
+given=$(cat "$work/pass")
+run "bitrate 30000\n$summary\nsend\nflush\n$given\nreceive 2\n" pass2
+wanted 'a second pass' 0 "sent 0\nflushed\ngiven\n${coded}limit-reached\n" $?
+run "bitrate 30000\n$summary\nsend\nflush\nreceive\n" pass2
+wanted 'a second pass that waits' 0 'sent 0\nflushed\nnot-ready\n' $?
+run "bitrate 30000\n$summary\nsend\nflush\npass 00\nreceive\n" pass2
+wanted 'pass data of one byte' 10 'pass data 5\n' $?
+
 # Scripts that numbers make; standard input isn't read.
 six='frames 2000\nkeys 63\nhidden 937\npackets 2000\nbytes 245244\nreservoir 178560\n'
 "$program" gen 7 >"$work/out" 2>"$work/err" <&-
