@@ -81,7 +81,7 @@ const SPELLED: [u8; 28] = [
 // Whether it is a summary that begins so.
 fn is_summary(message: Option<RcData>, start: &[u8]) -> bool {
     match message {
-        Some(RcData::Summary(bytes)) => bytes.len() == 68 && &bytes[..28] == start,
+        Some(RcData::Summary(bytes)) => bytes.len() == 68 && bytes.as_slice().starts_with(start),
         _ => false,
     }
 }
@@ -196,7 +196,7 @@ fn a_list_of_calls_in_two_passes(rt: HostRuntime) -> Result<(), Fail> {
             PassTurn::Turn(turn) => match &turn.reply {
                 Reply::Sent(number) => *number,
                 Reply::Flushed => 10,
-                Reply::Packet(packet) => 20 + packet.bytes.len() as u64,
+                Reply::Packet(packet) => packet.bytes.len() as u64,
                 Reply::Status(EncoderStatus::NotReady) => 30,
                 Reply::Status(EncoderStatus::LimitReached) => 31,
                 Reply::Status(_) => 32,
@@ -206,7 +206,7 @@ fn a_list_of_calls_in_two_passes(rt: HostRuntime) -> Result<(), Fail> {
             PassTurn::Given => 50,
         })?;
     }
-    assert_eq!(rt; answers.as_slice(), [0, 10, 30, 50, 122, 31, 40].as_slice());
+    assert_eq!(rt; answers.as_slice(), [0, 10, 30, 50, 102, 31, 40].as_slice());
     let refused = SessionError::PassData(PassDataError::WrongSize(1));
     assert_eq!(rt; carried_out(alloc, true, &[&[0]]).err(), Some(refused));
     let refused = SessionError::PassData(PassDataError::NotNeeded);
