@@ -175,6 +175,20 @@ wanted 'a second pass that waits' 0 'sent 0\nflushed\nnot-ready\n' $?
 run "bitrate 30000\n$summary\nsend\nflush\npass 00\nreceive\n" pass2
 wanted 'pass data of one byte' 10 'pass data 5\n' $?
 
+# Jobs side by side: the same packets on any number of workers; the least job that fails; what is missing.
+jobs='cut 1\nsend 2\nflush\n'
+packets='Frame 0 - Key frame - 102 bytes\nFrame 1 - Key frame - 102 bytes\n'
+for workers in 1 2 16; do
+    run "$jobs" gops $workers
+    wanted "jobs on $workers workers" 0 "$packets" $?
+done
+run "fault 0\n$jobs" gops 2
+wanted 'a job that fails' 8 'coder fault 0 0\n' $?
+run 'send\n' gops 2
+wanted 'no flush of jobs' 3 'script line 2\n' $?
+run "$jobs" gops 17
+wanted 'too many workers' 2 '' $?
+
 # Scripts that numbers make; standard input isn't read.
 six='frames 2000\nkeys 63\nhidden 937\npackets 2000\nbytes 245244\nreservoir 178560\n'
 "$program" gen 7 >"$work/out" 2>"$work/err" <&-

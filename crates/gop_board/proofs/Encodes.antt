@@ -21,6 +21,7 @@ use Rattle.gop_board.specs.declared.job.Job.{Job}
 use Rattle.gop_board.specs.declared.job_result.JobResult.{JobResult}
 use Rattle.gop_board.specs.declared.job_result.JobResult.TheVariants.{Packets, Fault, OutOfMemory}
 use Rattle.gop_board.specs.Encoding.{IsJobsCause, IsLeastFault, JoinsPackets, NoneFails, TellsFails}
+use Rattle.gop_board.specs.Gathering.{IsGathered, first_fault}
 use Rattle.gop_board.specs.Jobs.{AreJobs, pictures}
 use Rattle.gop_board.specs.JobSessions.{GavePackets, IsSession, MetFault}
 use Rattle.gop_board.specs.Makers.{MakerTold}
@@ -29,7 +30,7 @@ use Rattle.gop_board.specs.Workers.{AreFitting, EachJob, IsResultOf}
 use Rattle.gop_board.specs.declared.gathered.Gathered.{Gathered}
 use Rattle.gop_board.specs.declared.gathered.JobFault.{JobFault}
 use Rattle.gop_board.proofs.FaultsApart.{apart, one-command}
-use Rattle.gop_board.proofs.Gathers.{HasMemory, IsGathering, first-at, first_fault, parts-join, parts_of, zip-at, zip-of}
+use Rattle.gop_board.proofs.Gathers.{HasMemory, IsGathering, first-at, parts-join, parts_of, zip-at, zip-of}
 
 -- ---- what holds of all frames holds of a job's
 
@@ -122,14 +123,22 @@ module _ {T C : Type 0} (enc : EncoderConfig) (tables : Tables) (ahead : ℕ →
     told-least : (place ≤ at) × (at ≡ place → other ≡ command)
     told-least = (elim (cases_lt at place) [ inl less ↦ absurd (not-before less) | inr from ↦ from ], same-command)
 
-  module _ (count : ℕ) (gathered : Gathered T C) (g : IsGathering (IsResultOf enc tables ahead told jobs) count gathered) (every : count ≡ length jobs) where
-    sessions : AllZip (IsSession enc tables ahead told) jobs g.results
-    sessions = zip-of (IsSession enc tables ahead told) jobs g.results (g.count ∙ every) g.each
+  -- what was gathered from as many results as there are jobs
+  pub gathered-of : (count : ℕ) (gathered : Gathered T C) → IsGathering (IsResultOf enc tables ahead told jobs) count gathered → count ≡ length jobs →
+      IsGathered enc tables ahead told jobs gathered
+  gathered-of count gathered g every = record {
+    results = g.results;
+    each = zip-of (IsSession enc tables ahead told) jobs g.results (g.count ∙ every) g.each;
+    memory = g.memory;
+    packets = g.packets;
+    fault = g.fault;
+  }
 
+  module _ (gathered : Gathered T C) (g : IsGathered enc tables ahead told jobs gathered) where
     pub whole-of : (packets : List (Packet T ⊤)) → gathered.packets ≡ packets → gathered.fault ≡ None → JoinsPackets enc tables ahead jobs packets
     whole-of packets same none = record {
       parts = parts_of g.results;
-      each = gave-all 0 jobs g.results (sym g.fault ∙ none) g.memory sessions;
+      each = gave-all 0 jobs g.results (sym g.fault ∙ none) g.memory g.each;
       joined = sym same ∙ g.packets ∙ ap (λ (l : List (Packet T ⊤)). numbered l) (parts-join 0 g.results (sym g.fault ∙ none) g.memory);
     }
 
@@ -139,11 +148,11 @@ module _ {T C : Type 0} (enc : EncoderConfig) (tables : Tables) (ahead : ℕ →
         let here : first.place ≡ fault.job = omega (arith, first.job) in
         record {
           results = g.results;
-          each = sessions;
+          each = g.each;
           fault = subst (λ (n : ℕ). slice_get g.results n ≡ Some (Fault fault.command fault.coder)) here first.there;
           least = λ before less. first.least before (omega (arith, less, here));
           memory = g.memory;
-          told_least = told-least g.results sessions fault.job fault.command fault.coder
+          told_least = told-least g.results g.each fault.job fault.command fault.coder
               (subst (λ (n : ℕ). slice_get g.results n ≡ Some (Fault fault.command fault.coder)) here first.there)
               (λ before less. first.least before (omega (arith, less, here)));
         }

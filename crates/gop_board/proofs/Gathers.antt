@@ -8,7 +8,7 @@ use Rattle.gop_board.specs.declared.gathered.Gathered.{Gathered}
 use Rattle.gop_board.specs.declared.gathered.JobFault.{JobFault}
 use Rattle.gop_board.specs.declared.job_result.JobResult.{JobResult}
 use Rattle.gop_board.specs.declared.job_result.JobResult.TheVariants.{Packets, Fault, OutOfMemory}
-use Rattle.gop_board.specs.Gathering.{IsWithResult}
+use Rattle.gop_board.specs.Gathering.{IsWithResult, first_fault}
 use Rattle.gop_board.specs.Packets.{numbered, numbered_from, packets_before_fault}
 use Rattle.gop_board.proofs.PacketOrder.{numbered-append}
 
@@ -28,13 +28,7 @@ renumber-push {T} start more packet next is =
     ∙ ap (λ (n : ℕ). start ++ (numbered_from (length start) more ++ (record packet { input_frameno = n }) ∷ [])) there
     ∙ ap (λ (l : List (Packet T ⊤)). start ++ l) (sym (numbered-append (length start) more (packet ∷ [])))
 
--- ---- the first fault of results, the first of which is the job's of this number
-
-abbrev pub first_fault : {T C : Type 0} → ℕ → List (JobResult T C) → Option (JobFault C)
-first_fault number [] = None
-first_fault number (Packets packets ∷ results) = first_fault (number + 1) results
-first_fault number (Fault command coder ∷ results) = Some (record { job = number; command = command; coder = coder })
-first_fault number (OutOfMemory ∷ results) = first_fault (number + 1) results
+-- ---- the first fault of results
 
 -- none of these ran out of memory
 abbrev pub HasMemory : {T C : Type 0} → List (JobResult T C) → Type 0

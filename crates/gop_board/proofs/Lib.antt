@@ -1,10 +1,10 @@
 mod Alike
 mod Counts
-mod Encodes
+pub mod Encodes
 mod FaultPlans
 mod FaultsApart
 mod Filling
-mod Gathers
+pub mod Gathers
 mod Handed
 mod JobRuns
 mod Moves

@@ -1,23 +1,20 @@
 // Frames coded as jobs side by side.
-ghost use Rattle.std.specs.Prelude.{◌≡◌, ◌≤◌, ◌<◌, ◌+◌, ◌⊎◌, ℕ, None, Some, Err, All, IfErr, IfOk, IsOk, IsTrue, false, length, map};
+ghost use Rattle.std.specs.Prelude.{◌≡◌, ◌≤◌, ◌⊎◌, ℕ, None, Some, Err, All, IfErr, IfOk, IsOk, IsTrue, length, map};
 ghost use Rattle.av1_frame.specs.Planes.{fits};
 ghost use Rattle.av1_settings.specs.declared.invalid.InvalidConfig.{InvalidConfig};
 ghost use Rattle.av1_settings.specs.Checks.{session_refusal};
 ghost use Rattle.session_core.specs.Told.{IsDetectorLater};
-ghost use Rattle.gop_board.specs.Deposited.{SessionsBelong};
 ghost use Rattle.gop_board.specs.Encoding.{IsCause, IsJobsCause, IsWhole, JoinsPackets, NoneFails};
-ghost use Rattle.gop_board.specs.Rows.{is_absent};
 ghost use Rattle.gop_board.specs.Workers.{AreFitting, EachIs, EachJob, IsResultOf};
 
-use crate::fan_out::{Uncollected, run_workers};
-use crate::gathered::{Gathered, JobFault};
-use crate::{Board, Gate, Job, JobResult, MakeSession, PacketList, Run, run_job, split_gops};
+use crate::coding::gather_jobs;
+use crate::{Gate, Gathered, Job, JobFault, MakeSession, PacketList, Run, split_gops};
 use av1_frame::{Frame, Pixel};
 use av1_settings::{Config, InvalidConfig, LevelTables};
 use session_core::{Detector, QTables};
 use std::alloc::Global;
 use std::marker::Brand;
-use std::sync::{Arc, Mutex, Wait};
+use std::sync::{Arc, Wait};
 use std::thread::Threads;
 use thiserror::Error;
 
@@ -40,14 +37,6 @@ pub enum GopError<C> {
     /// Memory ran out, maybe in a job.
     #[error("out of memory")]
     OutOfMemory,
-}
-
-impl<T, C> Run<T, C> for Brand {
-    ghost use Rattle.std.specs.Prelude.{⊤};
-
-    ghost jobs = { 0 };
-
-    ghost belongs = { λ job found. ⊤ };
 }
 
 /// Splits frames into jobs (`split_gops`), codes each in a session of its own (`run_job`) on as many workers as are asked for, 0
@@ -116,7 +105,7 @@ where
     }
 }
 
-// Codes jobs on workers, and gathers their results in order.
+// Codes jobs on workers, and gives the packets of all.
 fn encode_jobs<
     N: Run<T, M::Coder> + Send + Sync,
     H: Threads + Wait + Sync,
@@ -149,52 +138,12 @@ where
     ensures error { IfErr result (IsJobsCause cfg.now.enc tables.now (M.told maker.now)
         M.Coder.told jobs.now) }
 {
-    let Ok(board) = Board::<T, M::Coder, N>::new(alloc, jobs.len() as u64) else {
+    let gathered = gather_jobs::<N, H, T, M, G>(
+        rt, alloc, cfg, levels, tables, jobs, maker, workers, gate,
+    );
+    let Ok(Gathered { packets, fault }) = gathered else {
         return Err(GopError::OutOfMemory);
     };
-    let results = Mutex::new(Uncollected::new(board));
-    let Ok(()) = run_workers(
-        rt, alloc, cfg, levels, tables, jobs, maker, workers, gate, &results,
-    ) else {
-        return Err(GopError::OutOfMemory);
-    };
-    let Uncollected { board } = results.into_inner();
-    collect::<N, T, M>(alloc, cfg, levels, tables, jobs, maker, board)
-}
-
-// Gathers the results in the order of the jobs, the packets up to the first fault.
-fn collect<N: Run<T, M::Coder>, T: Pixel, M: MakeSession<T>>(
-    alloc: Global,
-    cfg: &Config,
-    levels: &LevelTables,
-    tables: &QTables,
-    jobs: &[Job<T>],
-    maker: &M,
-    board: Board<T, M::Coder, N>,
-) -> Result<PacketList<T>, GopError<M::Coder>>
-    requires valid { session_refusal T.BITS levels.now cfg.now ≡ None }
-    requires frames { EachJob (λ place job. AreFitting cfg.now.enc job.frames) jobs.now }
-    requires numbers { EachJob (λ place job. job.number ≡ place) jobs.now }
-    requires run { N.jobs ≡ length jobs.now }
-    requires belongs { EachIs
-        (IsResultOf cfg.now.enc tables.now (M.told maker.now) M.Coder.told jobs.now) N.belongs }
-    requires belonging { EachIs N.belongs
-        (IsResultOf cfg.now.enc tables.now (M.told maker.now) M.Coder.told jobs.now) }
-    requires uncollected { board.collected ≡ 0 }
-    ensures joins { IfOk result (JoinsPackets cfg.now.enc tables.now (M.told maker.now) jobs.now) }
-    ensures error { IfErr result (IsJobsCause cfg.now.enc tables.now (M.told maker.now)
-        M.Coder.told jobs.now) }
-{
-    let mut board = board;
-    let mut gathered = Gathered::new(alloc);
-    for number in 0..jobs.len() {
-        let job = &jobs[number];
-        let found = take_result::<N, T, M>(alloc, cfg, levels, tables, job, maker, &mut board);
-        let Ok(()) = gathered.add(number as u64, found) else {
-            return Err(GopError::OutOfMemory);
-        };
-    }
-    let Gathered { packets, fault } = gathered;
     match fault {
         None => Ok(packets),
         Some(fault) => {
@@ -209,55 +158,5 @@ fn collect<N: Run<T, M::Coder>, T: Pixel, M: MakeSession<T>>(
                 coder,
             })
         }
-    }
-}
-
-// Collects the result of the job that comes next.
-fn take_result<N: Run<T, M::Coder>, T: Pixel, M: MakeSession<T>>(
-    alloc: Global,
-    cfg: &Config,
-    levels: &LevelTables,
-    tables: &QTables,
-    job: &Job<T>,
-    maker: &M,
-    board: &mut Board<T, M::Coder, N>,
-) -> JobResult<T, M::Coder>
-    requires valid { session_refusal T.BITS levels.now cfg.now ≡ None }
-    requires frames { AreFitting cfg.now.enc job.now.frames }
-    requires below { job.now.number < N.jobs }
-    requires belongs { SessionsBelong cfg.now.enc tables.now (M.told maker.now) M.Coder.told
-        N.belongs job.now }
-    requires next { board.old.collected ≡ job.now.number }
-    ensures belongs { N.belongs job.now.number result }
-    ensures next { board.new.collected ≡ job.now.number + 1 }
-{
-    fill::<N, T, M>(alloc, cfg, levels, tables, job, maker, board);
-    match board.collect_next() {
-        Some(found) => found,
-        None => unreachable!(),
-    }
-}
-
-// Runs a job whose result isn't there.
-fn fill<N: Run<T, M::Coder>, T: Pixel, M: MakeSession<T>>(
-    alloc: Global,
-    cfg: &Config,
-    levels: &LevelTables,
-    tables: &QTables,
-    job: &Job<T>,
-    maker: &M,
-    board: &mut Board<T, M::Coder, N>,
-)
-    requires valid { session_refusal T.BITS levels.now cfg.now ≡ None }
-    requires frames { AreFitting cfg.now.enc job.now.frames }
-    requires below { job.now.number < N.jobs }
-    requires belongs { SessionsBelong cfg.now.enc tables.now (M.told maker.now) M.Coder.told
-        N.belongs job.now }
-    ensures there { is_absent board.new job.now.number ≡ false }
-    ensures collected { board.new.collected ≡ board.old.collected }
-{
-    if board.is_absent(job.number) {
-        let found = run_job(alloc, cfg, levels, tables, job, maker);
-        board.deposit(job.number, found);
     }
 }

@@ -7,18 +7,23 @@ use crate::{JobResult, PacketList};
 use coding_base::OutOfMemory;
 use std::alloc::Global;
 
-// The fault of a job.
+/// The fault of a job.
 #[derive(Drop)]
-pub(crate) struct JobFault<C> {
+pub struct JobFault<C> {
+    /// The job's number.
     pub job: u64,
+    /// The number of commands coded before.
     pub command: u64,
+    /// The coder that failed.
     pub coder: C,
 }
 
-// The packets up to the first fault, numbered anew, and that fault.
+/// What jobs gave, in their order.
 #[derive(Drop)]
-pub(crate) struct Gathered<T, C> {
+pub struct Gathered<T, C> {
+    /// The packets up to the first fault, numbered anew.
     pub packets: PacketList<T>,
+    /// That fault.
     pub fault: Option<JobFault<C>>,
 }
 

@@ -4,6 +4,7 @@
 #![tactic(auto)]
 
 mod board;
+mod coding;
 mod core_state;
 mod encode;
 mod fan_out;
@@ -22,9 +23,11 @@ mod tests;
 mod worker;
 
 pub use board::{Board, Deposits, Run};
+pub use coding::code_jobs;
 pub use core_state::{CoreState, CoreStep, core_run, core_step};
 pub use encode::{GopError, encode_gops};
 pub use gate::{Gate, OpenGate};
+pub use gathered::{Gathered, JobFault};
 pub use job::{FrameList, Job};
 pub use job_queue::{JobPass, JobQueue};
 pub use job_result::{JobResult, PacketList};

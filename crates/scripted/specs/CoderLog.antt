@@ -9,7 +9,7 @@ use Rattle.session_core.specs.Told.{CoderTold, Gave, Handed, ToCode, ToShow, Tol
 use Rattle.scripted.specs.declared.coder.Given.{Given}
 use Rattle.scripted.specs.declared.coder.Given.TheVariants.{Coded, Shown}
 use Rattle.scripted.specs.declared.coder.ScriptedCoder.{ScriptedCoder}
-use Rattle.scripted.specs.ScriptedBytes.{scripted_bytes}
+use Rattle.scripted.specs.ScriptedBytes.{counted_from, scripted_bytes}
 
 -- bytes alone: no picture, and every count 0
 abbrev pub gave_bytes : List ℕ → Gave ℕ
@@ -40,6 +40,11 @@ command_of (ToShow show) = Show show.slot
 abbrev pub scripted_next : List (ℕ × ℕ) → List (Told ℕ) → Handed ℕ → Gave ℕ
 scripted_next counts calls handed = gave_bytes (scripted_bytes counts (command_of handed))
 
+-- the same, by counts that speak of frame 0 by this number, and of those that follow by the numbers that follow
+abbrev pub scripted_next_from : ℕ → List (ℕ × ℕ) → List (Told ℕ) → Handed ℕ → Gave ℕ
+scripted_next_from first counts calls handed =
+    gave_bytes (scripted_bytes counts (counted_from first (command_of handed)))
+
 -- how many further calls give bytes before the first that fails, if one does
 abbrev pub calls_left : ScriptedCoder → Option ℕ
 calls_left coder = option_map (λ first. first - length coder.log) coder.first_fault
@@ -47,7 +52,7 @@ calls_left coder = option_map (λ first. first - length coder.log) coder.first_f
 abbrev pub coder_told : ScriptedCoder → CoderTold ℕ
 coder_told coder = record {
   calls = calls_of coder;
-  gives = Some (scripted_next coder.byte_counts);
+  gives = Some (scripted_next_from coder.first coder.byte_counts);
   fails_after = Some (calls_left coder);
   faults = coder.faults;
 }
@@ -60,6 +65,11 @@ told_first counts faults = record {
   fails_after = Some (reduce min faults);
   faults = 0;
 }
+
+-- the same, by counts that speak of frame 0 by this number
+abbrev pub told_first_from : ℕ → List (ℕ × ℕ) → List ℕ → CoderTold ℕ
+told_first_from first counts faults =
+    record (told_first counts faults) { gives = Some (scripted_next_from first counts) }
 
 -- the next call is to fail
 abbrev pub is_due : ScriptedCoder → Bool

@@ -1,5 +1,5 @@
 -- The bytes that the scripted coder gives.
-use Rattle.std.specs.Prelude.{ℕ, ◌%◌, ◌==◌, min, max, List, [], ◌∷◌, replicate, reverse, Option}
+use Rattle.std.specs.Prelude.{ℕ, ◌+◌, ◌%◌, ◌==◌, min, max, List, [], ◌∷◌, replicate, reverse, Option}
 use Rattle.std.specs.List.{find}
 use Rattle.std.specs.Option.{option_map, option_map_or}
 use Rattle.av1_settings.specs.declared.frame_type.FrameType.{FrameType}
@@ -26,3 +26,8 @@ byte_count counts frame kind =
 unfoldable pub scripted_bytes : List (ℕ × ℕ) → Command → List ℕ
 scripted_bytes counts (Code frame kind refs refresh shown) = replicate (byte_count counts frame kind) (frame % 256)
 scripted_bytes counts (Show slot) = 0x1a ∷ 0x01 ∷ slot ∷ []
+
+-- the command, its frame counted from this number on
+abbrev pub counted_from : ℕ → Command → Command
+counted_from first (Code frame kind refs refresh shown) = Code (first + frame) kind refs refresh shown
+counted_from first (Show slot) = Show slot

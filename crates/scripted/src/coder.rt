@@ -1,8 +1,9 @@
-ghost use Rattle.std.specs.Prelude.{◌≡◌, ◌∷◌, [], ◌≤◌, IfOk, min};
+ghost use Rattle.std.specs.Prelude.{◌≡◌, ◌+◌, ◌%◌, ◌∷◌, [], ◌≤◌, IfOk, min};
 ghost use Rattle.std.specs.List.{reduce};
 ghost use Rattle.coding_base.specs.Faults.{Rose};
-ghost use Rattle.scripted.specs.ScriptedBytes.{byte_count, plain_count, scripted_bytes, set_count};
+ghost use Rattle.scripted.specs.ScriptedBytes.{byte_count, counted_from, plain_count, scripted_bytes, set_count};
 
+use crate::numbers::is_number_of;
 use av1_frame::Frame;
 use av1_settings::{EncoderStats, FrameType, T35List};
 use coding_base::{Bytes, OutOfMemory, Sequence};
@@ -44,6 +45,8 @@ pub enum Given {
 /// number modulo 256. It keeps what it was asked for and gave, and fails from a given call on.
 #[derive(Drop)]
 pub struct ScriptedCoder {
+    /// The number by which the rules speak of the coder's frame 0; its other frames follow.
+    pub(crate) first: u64,
     /// Frames, and how many bytes each codes to; the last for a frame counts.
     pub(crate) byte_counts: Sequence<(u64, u64)>,
     /// The number of the first call that fails, from 0; all behind it fail too.
@@ -70,17 +73,20 @@ fn plain_count(kind: FrameType) -> usize
 }
 
 // The count that is set for a frame, if one is.
-fn set_count(byte_counts: &[(u64, u64)], frame: u64) -> Option<u64>
-    ensures { result ≡ set_count byte_counts.now frame }
+fn set_count(byte_counts: &[(u64, u64)], first: u64, frame: u64) -> Option<u64>
+    ensures { result ≡ set_count byte_counts.now (first + frame) }
 {
-    let (_, count) = byte_counts.iter().rev().find(|count| count.0 == frame)?;
+    let (_, count) = byte_counts
+        .iter()
+        .rev()
+        .find(|count| is_number_of(count.0, first, frame))?;
     Some(*count)
 }
 
-fn byte_count(byte_counts: &[(u64, u64)], frame: u64, kind: FrameType) -> usize
-    ensures { result ≡ byte_count byte_counts.now frame kind }
+fn byte_count(byte_counts: &[(u64, u64)], first: u64, frame: u64, kind: FrameType) -> usize
+    ensures { result ≡ byte_count byte_counts.now (first + frame) kind }
 {
-    match set_count(byte_counts, frame) {
+    match set_count(byte_counts, first, frame) {
         Some(count) => count.min(MOST_BYTES).max(1) as usize,
         None => plain_count(kind),
     }
@@ -93,19 +99,29 @@ fn first_fault(faults: &[u64]) -> Option<u64>
     faults.iter().min().copied()
 }
 
+// A frame's number modulo 256.
+fn byte_of(first: u64, frame: u64) -> u8
+    ensures { result ≡ (first + frame) % 256 }
+{
+    ((first % 256 + frame % 256) % 256) as u8
+}
+
 // The bytes of a command: of a frame, its number in every byte; of a show, an open bitstream unit of one byte, the slot.
 #[tactic(auto, unfolding(crate::specs::ScriptedBytes::scripted_bytes))]
 fn scripted_bytes(
     alloc: Global,
     byte_counts: &[(u64, u64)],
+    first: u64,
     command: &Command,
 ) -> Result<Bytes, OutOfMemory>
-    ensures { IfOk result (λ bytes. bytes ≡ scripted_bytes byte_counts.now command.now) }
+    ensures { IfOk result (λ bytes.
+        bytes ≡ scripted_bytes byte_counts.now (counted_from first command.now)) }
 {
     match *command {
         Command::Code { frame, kind, .. } => {
             let mut bytes = Vec::new(alloc);
-            bytes.resize(byte_count(byte_counts, frame, kind), (frame % 256) as u8)?;
+            let count = byte_count(byte_counts, first, frame, kind);
+            bytes.resize(count, byte_of(first, frame))?;
             Ok(Sequence::from_vec(bytes))
         }
         Command::Show { slot } => Ok(Sequence::from_slice(alloc, &shown_bytes(slot))?),
@@ -122,13 +138,14 @@ impl ScriptedCoder {
     ghost use Rattle.std.specs.Prelude.{◌++◌, ◌∷◌, [], IsTrue, None, Some, map, OnOk, OnErr};
     ghost use Rattle.av1_settings.specs.Stats.{no_stats};
     ghost use Rattle.session_core.specs.Told.{GrowsBy, told_code, told_show};
-    ghost use Rattle.scripted.specs.CoderLog.{calls_of, coder_told, is_due, told_first, told_of};
+    ghost use Rattle.scripted.specs.CoderLog.{calls_of, coder_told, is_due, told_first, told_first_from, told_of};
 
     /// A coder that was asked for nothing yet, sets no counts of bytes and never fails.
     pub fn new(alloc: Global) -> ScriptedCoder
         ensures { coder_told result ≡ told_first [] [] }
     {
         ScriptedCoder {
+            first: 0,
             byte_counts: Sequence::new(alloc),
             first_fault: None,
             faults: 0,
@@ -147,7 +164,22 @@ impl ScriptedCoder {
         ensures { IfOk result (λ coder.
             coder_told coder ≡ told_first byte_counts.now faults.now) }
     {
+        ScriptedCoder::with_rules_from(alloc, 0, byte_counts, faults)
+    }
+
+    /// The same, by rules that speak of the coder's frames by other numbers: of its frame 0 by `first`, and of those that follow
+    /// by the numbers that follow. Their bytes are of these numbers too.
+    pub fn with_rules_from(
+        alloc: Global,
+        first: u64,
+        byte_counts: &[(u64, u64)],
+        faults: &[u64],
+    ) -> Result<ScriptedCoder, OutOfMemory>
+        ensures { IfOk result (λ coder.
+            coder_told coder ≡ told_first_from first byte_counts.now faults.now) }
+    {
         Ok(ScriptedCoder {
+            first,
             byte_counts: Sequence::from_slice(alloc, byte_counts)?,
             first_fault: first_fault(faults),
             faults: 0,
@@ -192,14 +224,15 @@ impl ScriptedCoder {
     fn keep_code(&mut self, alloc: Global, job: &CodeJob<u8>) -> Result<CodedFrame<u8>, OutOfMemory>
         ensures told { GrowsBy (calls_of self.old) (calls_of self.new) result
             (told_code job.now) }
-        ensures bytes { IfOk result (λ coded.
-            coded.bytes ≡ scripted_bytes self.old.byte_counts job.now.command) }
+        ensures bytes { IfOk result (λ coded. coded.bytes
+            ≡ scripted_bytes self.old.byte_counts (counted_from self.old.first job.now.command)) }
         ensures plain { IfOk result (λ coded.
             (coded.rec ≡ None) × (coded.stats ≡ no_stats)) }
         ensures same { self.new ≡ record self.old { log = self.new.log } }
     {
-        let bytes = scripted_bytes(alloc, self.byte_counts.as_slice(), &job.command)?;
-        let kept = scripted_bytes(alloc, self.byte_counts.as_slice(), &job.command)?;
+        let byte_counts = self.byte_counts.as_slice();
+        let bytes = scripted_bytes(alloc, byte_counts, self.first, &job.command)?;
+        let kept = scripted_bytes(alloc, byte_counts, self.first, &job.command)?;
         let picture = Arc::try_clone(&job.picture)?;
         let t35 = Arc::try_clone(&job.t35)?;
         self.keep(Given::Coded {

@@ -5,6 +5,7 @@
 mod coder;
 mod detector;
 mod levels;
+mod numbers;
 mod scales;
 mod tables;
 #[cfg(test)]

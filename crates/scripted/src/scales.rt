@@ -1,6 +1,7 @@
-ghost use Rattle.std.specs.Prelude.{◌≡◌, [], ◌∷◌, ◌++◌, map, IfOk, OnOk, OnErr, Some};
-ghost use Rattle.scripted.specs.ScalesLog.{measured_by, scale_at, scaled_first, scales_told, set_scale, told_measured};
+ghost use Rattle.std.specs.Prelude.{◌≡◌, ◌+◌, [], ◌∷◌, ◌++◌, map, IfOk, OnOk, OnErr, Some};
+ghost use Rattle.scripted.specs.ScalesLog.{measured_by, scale_at, scaled_first, scaled_first_from, scales_told, set_scale, told_measured};
 
+use crate::numbers::is_number_of;
 use av1_frame::Frame;
 use coding_base::{OutOfMemory, Sequence};
 use session_core::MeanScale;
@@ -22,22 +23,27 @@ pub struct Measured {
 /// were asked.
 #[derive(Drop)]
 pub struct ScriptedScales {
+    // The number by which the values speak of frame 0; the other frames follow.
+    first: u64,
     scales: Sequence<(u64, i64)>,
     log: Sequence<Measured>,
 }
 
 // The mean scale that is set for a frame, if one is.
-fn set_scale(scales: &[(u64, i64)], frame: u64) -> Option<i64>
-    ensures { result ≡ set_scale scales.now frame }
+fn set_scale(scales: &[(u64, i64)], first: u64, frame: u64) -> Option<i64>
+    ensures { result ≡ set_scale scales.now (first + frame) }
 {
-    let (_, scale) = scales.iter().rev().find(|scale| scale.0 == frame)?;
+    let (_, scale) = scales
+        .iter()
+        .rev()
+        .find(|scale| is_number_of(scale.0, first, frame))?;
     Some(*scale)
 }
 
-fn scale_at(scales: &[(u64, i64)], frame: u64) -> i64
-    ensures { result ≡ scale_at scales.now frame }
+fn scale_at(scales: &[(u64, i64)], first: u64, frame: u64) -> i64
+    ensures { result ≡ scale_at scales.now (first + frame) }
 {
-    set_scale(scales, frame).unwrap_or(0)
+    set_scale(scales, first, frame).unwrap_or(0)
 }
 
 impl ScriptedScales {
@@ -45,7 +51,20 @@ impl ScriptedScales {
     pub fn new(alloc: Global, scales: &[(u64, i64)]) -> Result<ScriptedScales, OutOfMemory>
         ensures { IfOk result (λ made. scales_told made ≡ scaled_first scales.now) }
     {
+        ScriptedScales::new_from(alloc, 0, scales)
+    }
+
+    /// The same, with values that speak of the frames by other numbers: of frame 0 by `first`, and of those that follow by the
+    /// numbers that follow.
+    pub fn new_from(
+        alloc: Global,
+        first: u64,
+        scales: &[(u64, i64)],
+    ) -> Result<ScriptedScales, OutOfMemory>
+        ensures { IfOk result (λ made. scales_told made ≡ scaled_first_from first scales.now) }
+    {
         Ok(ScriptedScales {
+            first,
             scales: Sequence::from_slice(alloc, scales)?,
             log: Sequence::new(alloc),
         })
@@ -56,6 +75,7 @@ impl ScriptedScales {
         ensures { scales_told result ≡ scaled_first [] }
     {
         ScriptedScales {
+            first: 0,
             scales: Sequence::new(alloc),
             log: Sequence::new(alloc),
         }
@@ -74,7 +94,7 @@ impl ScriptedScales {
         ensures told { OnOk result (measured_by self.new
             ≡ Some (map told_measured self.old.log ++ told_measured measured ∷ [])) }
         ensures err { OnErr result (measured_by self.new ≡ measured_by self.old) }
-        ensures scales { self.new.scales ≡ self.old.scales }
+        ensures same { self.new ≡ record self.old { log = self.new.log } }
     {
         let answer = measured.answer;
         self.log.push(measured)?;
@@ -93,7 +113,7 @@ impl MeanScale<u8> for ScriptedScales {
         number: u64,
         frame: &Arc<Frame<u8>>,
     ) -> Result<i64, OutOfMemory> {
-        let answer = scale_at(self.scales.as_slice(), number);
+        let answer = scale_at(self.scales.as_slice(), self.first, number);
         let picture = Arc::try_clone(frame)?;
         self.keep(Measured {
             number,

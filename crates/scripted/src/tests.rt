@@ -166,6 +166,31 @@ fn the_last_scale_for_a_frame_is_its_own(rt: HostRuntime) -> Result<(), Fail> {
 }
 
 #[test]
+fn rules_may_count_from_another_frame(rt: HostRuntime) -> Result<(), Fail> {
+    let alloc = rt.alloc();
+    let frame: Frame<u8> = Frame::new(alloc, 16, 16, ChromaSampling::Cs420)?;
+    let picture = Arc::new(alloc, frame)?;
+    let mut coder = ScriptedCoder::with_rules_from(
+        alloc,
+        254,
+        &[(0, 7), (255, 2), (256, 3)],
+        &[3],
+    )?;
+    for (frame, bytes) in [(0, [254; 20].as_slice()), (1, &[255; 2]), (2, &[0; 3])] {
+        let coded = coder.code(alloc, &job(alloc, &picture, frame)?)?;
+        assert_eq!(rt; coded.bytes.as_slice(), bytes);
+    }
+    let failed = coder.code(alloc, &job(alloc, &picture, u64::MAX)?);
+    assert_eq!(rt; failed.err(), Some(CoderError::Failed));
+    let mut scales = ScriptedScales::new_from(alloc, 4, &[(0, 5), (4, 7), (5, -3)])?;
+    for (number, wanted) in [(0, 7), (1, -3), (4, 0), (u64::MAX, 0)] {
+        let answer = scales.log_isqrt_mean_scale(alloc, number, &picture)?;
+        assert_eq!(rt; answer, wanted);
+    }
+    Ok(())
+}
+
+#[test]
 fn tables_step_by_eight(rt: HostRuntime) {
     let tables = scripted_tables();
     for (index, value) in [(0, 8), (1, 16), (100, 808), (255, 2048)] {

@@ -1,14 +1,17 @@
 -- Calls of a context: what one keeps, and what it answers.
 use Rattle.std.proofs.Common.{◌≡◌, ℕ, ◌+◌, ◌-◌, ◌/◌, ◌^◌, ◌≤◌, min, take, length, ◌⊎◌, inl, inr, List, [], ◌∷◌, ◌++◌, Bool, true, false, MatchOption, MatchBool, IfOk, IfErr, Option, Some, None, is_some, Result, Ok, Err, refl, sym, ap, ◌∙◌, subst, arith}
 use Rattle.std.proofs.lemmas.List.{length-map, length-take}
+use Rattle.std.proofs.lemmas.List.Elements.{All-weaker}
 use Rattle.av1_frame.specs.declared.frame.Frame.{Frame}
 use Rattle.av1_settings.specs.declared.encoder.EncoderConfig.{EncoderConfig}
 use Rattle.av1_settings.specs.declared.status.EncoderStatus.{EncoderStatus}
 use Rattle.av1_settings.specs.declared.status.EncoderStatus.TheVariants.{NeedMoreData, EnoughData, LimitReached, Encoded, Failure, NotReady, FrameSizeMismatch, OutOfMemory as NoMemory}
 use Rattle.av1_settings.specs.Checks.{IsValid}
 use Rattle.pyramid.specs.declared.command.Command.{Command}
+use Rattle.pyramid.specs.declared.command.Command.TheVariants.{Code, Show}
 use Rattle.quantizers.specs.Tables.{Tables}
 use Rattle.ratecontrol.specs.Rate.{Rate}
+use Rattle.session_log.specs.Keeps.{HasSize, IsSized}
 use Rattle.session_log.specs.Passes.{Passes, rate_at}
 use Rattle.session_core.specs.declared.call.Call.{Call}
 use Rattle.session_core.specs.declared.call.Call.TheVariants.{Send, Flush, Receive}
@@ -31,7 +34,7 @@ use Rattle.session_core.specs.States.{moment_of, passes_at, waiting_of, IsKept, 
 use Rattle.session_core.specs.Sessions.{commands_of, moment_after}
 use Rattle.session_core.specs.Steps.{Fails, IsStep, Unused, WhereRefused}
 use Rattle.session_core.specs.Told.{Heard, IsLater}
-use Rattle.session_core.specs.Turns.{frame_limit, held_back, is_showing, IsNextPacket, IsTurn, CodesNext, OnlyReplies}
+use Rattle.session_core.specs.Turns.{HaveBytes, frame_limit, held_back, is_showing, IsNextPacket, IsTurn, CodesNext, OnlyReplies}
 use Rattle.session_core.proofs.PlanAt.{plan-of}
 use Rattle.session_core.proofs.Playing.{leads-ready, leads-step}
 use Rattle.session_core.proofs.Scheduling.{kept-rated}
@@ -73,6 +76,15 @@ held-few {T} {O} enc state failure held none =
     fits : (here coded there taken whole frames : ℕ) → here ≡ there → coded ≡ there → coded ≡ taken → taken ≡ min there whole → whole ≤ frames + frames / 2 →
         frames ≤ frame_limit → here ≤ 2 ^ 32
     fits here coded there taken whole frames a b c d e f = omega (arith, a, b, c, d, e, f)
+
+-- each entry of a state that is kept has bytes
+size-bytes : (command : Command) (entry : LogEntry) → HasSize command entry → 1 ≤ length entry.bytes
+size-bytes (Code frame kind refs refresh shown) entry size = size.0
+size-bytes (Show slot) entry size = let three = size.0 in omega (arith, three)
+
+pub kept-bytes : {T O : Type 0} (enc : EncoderConfig) (state : SessionState T O) → IsKept enc state → HaveBytes (moment_of state).log
+kept-bytes enc state kept =
+    All-weaker IsSized (λ entry. 1 ≤ length entry.bytes) (λ entry size. size-bytes entry.command entry size) (moment_of state).log (kept-rated enc state kept).sized
 
 -- the state of the rate controller is that of the moment's log
 pub held-rate : {T O : Type 0} (enc : EncoderConfig) (state : SessionState T O) (failure : Option SessionFault) (now : Rate) → IsHeld enc state failure →

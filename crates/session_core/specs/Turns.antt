@@ -1,5 +1,5 @@
 -- The reply table: what a session answers to each call, what it codes, and the moment after it.
-use Rattle.std.specs.Prelude.{◌≡◌, ℕ, ◌+◌, ◌-◌, Bool, true, false, not, nat_lt, nat_le, ◌==◌, ◌&&◌, ◌||◌, IsTrue, MatchBool, MatchOption, if◌then◌else◌, List, [], ◌∷◌, ◌++◌, map, filter, length, take, drop, slice_set, All, Option, None, Some, pos}
+use Rattle.std.specs.Prelude.{◌≡◌, ℕ, ◌+◌, ◌-◌, ◌≤◌, Bool, true, false, not, nat_lt, nat_le, ◌==◌, ◌&&◌, ◌||◌, IsTrue, MatchBool, MatchOption, if◌then◌else◌, List, [], ◌∷◌, ◌++◌, map, filter, length, take, drop, slice_set, All, Option, None, Some, pos}
 use Rattle.std.specs.Option.{option_map, option_map_or, option_or}
 use Rattle.std.specs.List.{flat_map, range_with_len, slice_get, slice_index_or, count_by}
 use Rattle.av1_frame.specs.declared.frame.Frame.{Frame}
@@ -185,6 +185,10 @@ held_back enc moment =
     if moment.flushed && is_complete moment then Some LimitReached
     else if needs_more_data enc moment then Some NeedMoreData
     else None
+
+-- each entry has bytes, as every coder gives them
+abbrev pub HaveBytes : List LogEntry → Type 0
+HaveBytes log = All (λ entry. 1 ≤ length entry.bytes) log
 
 -- the entries that aren't trials
 abbrev pub real_entries : List LogEntry → List LogEntry

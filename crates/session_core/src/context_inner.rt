@@ -14,7 +14,7 @@ ghost use Rattle.std.specs.Option.{option_map};
 ghost use Rattle.session_core.specs.Moments.{is_complete, places_ahead};
 ghost use Rattle.session_core.specs.PassTurns.{passes_begun};
 ghost use Rattle.session_core.specs.Told.{heard};
-ghost use Rattle.session_core.specs.Turns.{needs_more_data};
+ghost use Rattle.session_core.specs.Turns.{HaveBytes, needs_more_data};
 
 use crate::state::SessionState;
 use crate::{
@@ -158,6 +158,7 @@ impl<
         ensures call { IsCall GivesReceived Receive self.old self.new
             (heard (C.told self.old.coder) (D.told self.old.detector) (S.told self.old.scales))
             (heard (C.told self.new.coder) (D.told self.new.detector) (S.told self.new.scales)) result }
+        ensures bytes { self.new.failure ≡ None → HaveBytes self.new.moment.log }
     {
         received(self.call(alloc, Call::Receive))
     }
@@ -167,6 +168,7 @@ impl<
         ensures call { IsCall GivesReply call self.old self.new
             (heard (C.told self.old.coder) (D.told self.old.detector) (S.told self.old.scales))
             (heard (C.told self.new.coder) (D.told self.new.detector) (S.told self.new.scales)) result }
+        ensures bytes { self.new.failure ≡ None → HaveBytes self.new.moment.log }
         ensures again { call ≡ Flush
             → self.old.failure ≡ None
             → self.old.moment.flushed ≡ true

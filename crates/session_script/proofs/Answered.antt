@@ -1,9 +1,6 @@
 -- What a run comes to, by its cases.
-use Rattle.std.proofs.Common.{◌≡◌, ◌≢◌, ℕ, ◌+◌, ◌<◌, ◌≤◌, ◌↔◌, ◌⊎◌, inl, inr, Bool, true, false, IsTrue, ltb, IfSome, MatchOption, List, [], ◌∷◌, length, min, Option, None, Some, is_some, option_and_then, Result, Ok, Err, refl, sym, subst, ◌∙◌, arith}
-use Rattle.std.specs.Prelude.{String}
-use Rattle.std.specs.declared.alloc.Global.{Global}
+use Rattle.std.proofs.Common.{◌≡◌, ℕ, ◌+◌, ◌<◌, ◌≤◌, ◌↔◌, ◌⊎◌, inl, inr, true, false, IsTrue, ltb, IfSome, MatchOption, List, length, Option, None, Some, is_some, option_and_then, Result, Ok, Err, refl, sym, subst, ◌∙◌, arith}
 use Rattle.std.specs.Option.{option_map}
-use Rattle.std.specs.List.{reduce}
 use Rattle.std.proofs.lemmas.Bool.Decides.{nat_tests}
 use Rattle.std.proofs.lemmas.Bool.{le-ltb}
 use Rattle.av1_settings.specs.Defaults.{default_rate_control}
@@ -16,19 +13,19 @@ use Rattle.script_lines.specs.Grammar.{IsRateControl, summary_refusal}
 use Rattle.pass_stats.specs.Summary.{first_met}
 use Rattle.pass_stats.specs.declared.error.Why.{Why}
 use Rattle.pass_stats.proofs.SummaryFacts.{first_met-Summary}
-use Rattle.session_core.specs.Told.{FailsBehind, Heard}
+use Rattle.session_core.specs.Told.{Heard}
 use Rattle.session_script.specs.declared.outcome.Account.{Account}
-use Rattle.session_script.specs.declared.outcome.Account.TheVariants.{Turns, Passes}
+use Rattle.session_script.specs.declared.outcome.Account.TheVariants.{Turns, Passes, Packets}
 use Rattle.session_script.specs.declared.outcome.Outcome.{Outcome}
-use Rattle.session_script.specs.declared.outcome.Outcome.TheVariants.{WrongWords, Unreadable, TooLong, BadLine, RefusedPassData, Refused, CoderFault, Done, Unwritten, OutOfMemory}
+use Rattle.session_script.specs.declared.outcome.Outcome.TheVariants.{WrongWords, Unreadable, TooLong, BadLine, RefusedPassData, Refused, CoderFault, JobFault, Done, Unwritten, OutOfMemory}
 use Rattle.session_script.specs.declared.run.TheConstants.{MOST_BYTES}
-use Rattle.session_script.specs.Carried.{IsValidScript}
-use Rattle.session_script.specs.Causes.{GivesData, HasRefusedPacket, HasRefusedSummary, IsCarriedOut, IsDue, IsRefused, IsStopped, NamesFault, refusal_for, script_for, status_behind}
-use Rattle.session_script.specs.Outcomes.{EndsEarly, HasFault, IsDueFor, IsOfKind, IsRun, IsScriptOutcome, IsSourceOutcome, IsStatus, IsTaskOutcome, IsTold, IsToldOutcome, IsWritten, Span, cut_short, passes_in, status_of}
+use Rattle.session_script.specs.Causes.{GivesData, HasRefusedPacket, HasRefusedSummary, IsCarriedOut, IsDue, IsJobStopped, IsRefused, IsStopped, NamesFault, refusal_for, script_for, status_behind}
+use Rattle.session_script.specs.Outcomes.{EndsEarly, HasFault, IsAccountOf, IsDueFor, IsOfKind, IsRun, IsScriptOutcome, IsSourceOutcome, IsStatus, IsTaskOutcome, IsTold, IsToldOutcome, IsWritten, Span, cut_short, status_of}
 use Rattle.session_script.specs.declared.words.Task.{Task}
-use Rattle.session_script.specs.declared.words.Task.TheVariants.{Run, FirstPass, SecondPass, Generate}
-use Rattle.session_script.specs.Words.{has_two_passes, reads_script, task_of}
+use Rattle.session_script.specs.declared.words.Task.TheVariants.{Run, FirstPass, SecondPass, Generate, Gops}
+use Rattle.session_script.specs.Words.{reads_script}
 use Rattle.session_script.proofs.Giving.{gives}
+use Rattle.session_script.proofs.JobFaults.{job_faults, some_faults}
 
 -- ---- a source that was read
 
@@ -56,6 +53,7 @@ cause_same : (source : Span) (heard : Heard ℕ) (task : Task) (outcome : Outcom
 cause_same source heard Run (Unwritten account) h = absurd h
 cause_same source heard FirstPass (Unwritten account) h = absurd h
 cause_same source heard SecondPass (Unwritten account) h = absurd h
+cause_same source heard (Gops workers) (Unwritten account) h = absurd h
 cause_same source heard (Generate seed) (Unwritten account) h = absurd h.0
 cause_same source heard task outcome h = h
 
@@ -64,6 +62,7 @@ cause_cut : (source : Span) (heard : Heard ℕ) (task : Task) (outcome : Outcome
 cause_cut source heard Run (Unwritten account) h = absurd h
 cause_cut source heard FirstPass (Unwritten account) h = absurd h
 cause_cut source heard SecondPass (Unwritten account) h = absurd h
+cause_cut source heard (Gops workers) (Unwritten account) h = absurd h
 cause_cut source heard (Generate seed) (Unwritten account) h = absurd h.0
 cause_cut source heard task outcome h = h
 
@@ -73,17 +72,19 @@ cause_none source heard (Generate seed) outcome h = (tt, h.1)
 cause_none source heard Run outcome h = tt
 cause_none source heard FirstPass outcome h = tt
 cause_none source heard SecondPass outcome h = tt
+cause_none source heard (Gops workers) outcome h = tt
 
 never_wrong : (source : Span) (heard : Heard ℕ) (task : Task) → IsToldOutcome source heard task WrongWords → ⊥
 never_wrong source heard (Generate seed) h = h.0
 never_wrong source heard Run h = h
 never_wrong source heard FirstPass h = h
 never_wrong source heard SecondPass h = h
+never_wrong source heard (Gops workers) h = h
 
-runs_by : (words : List (String Global)) (source : Span) (heard : Heard ℕ) (task : Task) (outcome : Outcome) → task_of words ≡ Some task →
-    IsToldOutcome source heard task outcome → (status_of outcome ≡ 2) ↔ (task_of words ≡ None)
-runs_by words source heard task WrongWords is h = absurd (never_wrong source heard task h)
-runs_by words source heard task outcome is h = (λ e. absurd (omega arith), λ no. cc)
+runs_by : (asked : Option Task) (source : Span) (heard : Heard ℕ) (task : Task) (outcome : Outcome) → asked ≡ Some task →
+    IsToldOutcome source heard task outcome → (status_of outcome ≡ 2) ↔ (asked ≡ None)
+runs_by asked source heard task WrongWords is h = absurd (never_wrong source heard task h)
+runs_by asked source heard task outcome is h = (λ e. absurd (omega arith), λ no. cc)
 
 generates_by : (source sink : Span) (heard : Heard ℕ) (seed : ℕ) (outcome : Outcome) →
     IsToldOutcome source heard (Generate seed) outcome → IsWritten sink outcome →
@@ -122,28 +123,25 @@ refused_due : (task : Task) (script : Result Script ℕ) (number : ℕ) → IsRe
 refused_due task (Ok script) number e = due_by task script e.0 4 e.1 (behind_some (refusal_for task script e.0) number e.2)
 refused_due task (Err line) number e = absurd e
 
-valid_due : (script : Script) → IsValidScript script → IsDue Run (Ok script) 0
-valid_due script valid =
-    due_by Run script default_rate_control 0 (rw valid.one_pass refl) (behind_none (refusal_for Run script default_rate_control) valid.valid)
+valid_due : (task : Task) (script : Script) → script.summary ≡ None → refusal_for task script default_rate_control ≡ None →
+    IsDue task (Ok script) 0
+valid_due task script one_pass valid =
+    due_by task script default_rate_control 0 (rw one_pass refl) (behind_none (refusal_for task script default_rate_control) valid)
 
 done_due : (heard : Heard ℕ) (task : Task) (account : Account) (script : Result Script ℕ) → IsCarriedOut heard task account script →
     IsDue task script 0
-done_due heard Run (Turns transcript options) (Ok script) e = valid_due script e.0.valid
+done_due heard Run (Turns transcript options) (Ok script) e = valid_due Run script e.0.valid.one_pass e.0.valid.valid
 done_due heard FirstPass (Passes transcript options) (Ok script) e =
     due_by FirstPass script e.0.control 0 e.0.valid.summary (behind_none (refusal_for FirstPass script e.0.control) e.0.valid.valid)
 done_due heard SecondPass (Passes transcript options) (Ok script) e =
     due_by SecondPass script e.0.control 0 e.0.valid.summary (behind_none (refusal_for SecondPass script e.0.control) e.0.valid.valid)
+done_due heard (Gops workers) (Packets packets) (Ok script) e = valid_due (Gops workers) script e.valid.one_pass e.valid.valid
 done_due heard task account script e = absurd e
-
--- a script whose least fault number was reached has fault numbers
-pub some_faults : (faults : List ℕ) (count : ℕ) → FailsBehind (Some (reduce min faults)) count → faults ≢ []
-some_faults [] count reached = absurd reached
-some_faults (fault ∷ faults) count reached = λ e. cc
 
 stopped_due : (heard : Heard ℕ) (task : Task) (command : ℕ) (script : Result Script ℕ) → IsStopped heard task command script →
     IsDue task script 0 × NamesFault script
 stopped_due heard Run command (Ok script) e =
-    (valid_due script e.valid, some_faults script.faults _ e.fails.stopped.reached)
+    (valid_due Run script e.valid.one_pass e.valid.valid, some_faults script.faults _ e.fails.stopped.reached)
 stopped_due heard FirstPass command (Ok script) e = (
   due_by FirstPass script e.control 0 e.valid.summary (behind_none (refusal_for FirstPass script e.control) e.valid.valid),
   some_faults script.faults _ e.fails.stopped.reached,
@@ -153,6 +151,12 @@ stopped_due heard SecondPass command (Ok script) e = (
   some_faults script.faults _ e.fails.stopped.reached,
 )
 stopped_due heard task command script e = absurd e
+
+job_due : (task : Task) (job command : ℕ) (script : Result Script ℕ) → IsJobStopped task job command script →
+    IsDue task script 0 × NamesFault script
+job_due (Gops workers) job command (Ok script) e =
+    (valid_due (Gops workers) script e.valid.one_pass e.valid.valid, job_faults script job command e)
+job_due task job command script e = absurd e
 
 packet_due : (heard : Heard ℕ) (task : Task) (number : ℕ) (script : Result Script ℕ) → HasRefusedPacket heard task number script →
     IsDue task script 0 × GivesData script
@@ -231,6 +235,9 @@ module _ (sink : Span) (task : Task) where
   exact_by source heard (CoderFault command) h none =
       early (IsStopped heard task command) 8 source.known source.known_after h
       (λ script e. let both = stopped_due heard task command script e in (both.0, inr (inl (refl, both.1))))
+  exact_by source heard (JobFault job command) h none =
+      early (IsJobStopped task job command) 8 source.known source.known_after h
+      (λ script e. let both = job_due task job command script e in (both.0, inr (inl (refl, both.1))))
   exact_by source heard (Done account) h none =
       due (IsCarriedOut heard task account) 0 source.known source.known_after h (λ script e. done_due heard task account script e)
   exact_by source heard OutOfMemory h none = nine source.known
@@ -253,63 +260,80 @@ exact_told sink FirstPass source heard outcome reads h writes none = exact_by si
 exact_told sink SecondPass source heard (Unwritten account) reads h writes none =
     exact_cut sink SecondPass source heard account h (writes.unwritten refl)
 exact_told sink SecondPass source heard outcome reads h writes none = exact_by sink SecondPass source heard outcome h none
+exact_told sink (Gops workers) source heard (Unwritten account) reads h writes none =
+    exact_cut sink (Gops workers) source heard account h (writes.unwritten refl)
+exact_told sink (Gops workers) source heard outcome reads h writes none = exact_by sink (Gops workers) source heard outcome h none
 
--- ---- the kind of a session
+-- ---- the kind of what was done
 
 kind_done : (heard : Heard ℕ) (task : Task) (account : Account) (script : Result Script ℕ) → IsCarriedOut heard task account script →
-    is_some (passes_in account) ≡ has_two_passes task
-kind_done heard Run (Turns transcript options) (Ok script) h = refl
-kind_done heard FirstPass (Passes transcript options) (Ok script) h = refl
-kind_done heard SecondPass (Passes transcript options) (Ok script) h = refl
+    IsAccountOf task account
+kind_done heard Run (Turns transcript options) (Ok script) h = record { one = refl; two = refl }
+kind_done heard FirstPass (Passes transcript options) (Ok script) h = record { one = refl; two = refl }
+kind_done heard SecondPass (Passes transcript options) (Ok script) h = record { one = refl; two = refl }
+kind_done heard (Gops workers) (Packets packets) (Ok script) h = record { one = refl; two = refl }
 kind_done heard task account script h = absurd h
 
+kind_stopped : (heard : Heard ℕ) (task : Task) (command : ℕ) (script : Result Script ℕ) → IsStopped heard task command script →
+    IsOfKind task (CoderFault command)
+kind_stopped heard Run command (Ok script) h = refl
+kind_stopped heard FirstPass command (Ok script) h = refl
+kind_stopped heard SecondPass command (Ok script) h = refl
+kind_stopped heard task command script h = absurd h
+
+kind_job : (task : Task) (job command : ℕ) (script : Result Script ℕ) → IsJobStopped task job command script →
+    IsOfKind task (JobFault job command)
+kind_job (Gops workers) job command (Ok script) h = refl
+kind_job task job command script h = absurd h
+
 pub kind_in : (heard : Heard ℕ) (task : Task) (script : Result Script ℕ) (outcome : Outcome) → IsScriptOutcome heard task script outcome →
-    IsOfKind (has_two_passes task) outcome
+    IsOfKind task outcome
 kind_in heard task script (Done account) h = kind_done heard task account script h
 kind_in heard task script (Unwritten account) h = absurd h
+kind_in heard task script (CoderFault command) h = kind_stopped heard task command script h
+kind_in heard task script (JobFault job command) h = kind_job task job command script h
 kind_in heard task script outcome h = tt
 
-kind_cut : (two : Bool) (outcome : Outcome) → IsOfKind two outcome → IsOfKind two (cut_short outcome)
-kind_cut two (Done account) h = h
-kind_cut two (Unwritten account) h = h
-kind_cut two outcome h = tt
+kind_cut : (task : Task) (outcome : Outcome) → IsOfKind task outcome → IsOfKind task (cut_short outcome)
+kind_cut task (Done account) h = h
+kind_cut task outcome h = h
 
-kind_told : (two : Bool) (before after : Outcome) → IsOfKind two before → IsTold before after → IsOfKind two after
-kind_told two before after h (inl e) = subst (IsOfKind two) (sym e) h
-kind_told two before after h (inr (inl e)) = subst (IsOfKind two) (sym e) tt
-kind_told two before after h (inr (inr e)) = subst (IsOfKind two) (sym e) (kind_cut two before h)
+kind_told : (task : Task) (before after : Outcome) → IsOfKind task before → IsTold before after → IsOfKind task after
+kind_told task before after h (inl e) = subst (IsOfKind task) (sym e) h
+kind_told task before after h (inr (inl e)) = subst (IsOfKind task) (sym e) tt
+kind_told task before after h (inr (inr e)) = subst (IsOfKind task) (sym e) (kind_cut task before h)
 
 -- ---- the run
 
 some_same : (one other : Task) → Some one ≡ Some other → one ≡ other
 some_same one other e = cc
 
-module _ (words : List (String Global)) (source sink : Span) (heard : Heard ℕ) where
-  exact_for : (task : Task) (outcome : Outcome) → task_of words ≡ Some task → IsToldOutcome source heard task outcome →
-      IsWritten sink outcome → (named : Task) → task_of words ≡ Some named → IsTrue (reads_script named) → ¬ HasFault source →
+module _ (asked : Option Task) (source sink : Span) (heard : Heard ℕ) where
+  exact_for : (task : Task) (outcome : Outcome) → asked ≡ Some task → IsToldOutcome source heard task outcome →
+      IsWritten sink outcome → (named : Task) → asked ≡ Some named → IsTrue (reads_script named) → ¬ HasFault source →
       IfSome source.known (λ bytes. IsStatus sink named bytes (status_of outcome))
-  exact_for task outcome is h writes named asked reads none =
-      let same : task ≡ named = some_same task named (sym is ∙ asked) in
+  exact_for task outcome is h writes named other reads none =
+      let same : task ≡ named = some_same task named (sym is ∙ other) in
       exact_told sink named source heard outcome reads (subst (λ (task : Task). IsToldOutcome source heard task outcome) same h) writes none
 
-  generates_for : (task : Task) (outcome : Outcome) → task_of words ≡ Some task → IsToldOutcome source heard task outcome →
-      IsWritten sink outcome → (seed : ℕ) → task_of words ≡ Some (Generate seed) →
+  generates_for : (task : Task) (outcome : Outcome) → asked ≡ Some task → IsToldOutcome source heard task outcome →
+      IsWritten sink outcome → (seed : ℕ) → asked ≡ Some (Generate seed) →
       (status_of outcome ≡ 0) ⊎ (status_of outcome ≡ 9) ⊎ ((status_of outcome ≡ 6) × HasFault sink)
-  generates_for task outcome is h writes seed asked =
-      let same : task ≡ Generate seed = some_same task (Generate seed) (sym is ∙ asked) in
+  generates_for task outcome is h writes seed other =
+      let same : task ≡ Generate seed = some_same task (Generate seed) (sym is ∙ other) in
       generates_by source sink heard seed outcome (subst (λ (task : Task). IsToldOutcome source heard task outcome) same h) writes
 
-  kind_for : (task : Task) (outcome : Outcome) → task_of words ≡ Some task → IsOfKind (has_two_passes task) outcome →
-      (named : Task) → task_of words ≡ Some named → IsOfKind (has_two_passes named) outcome
-  kind_for task outcome is h named asked =
-      subst (λ (task : Task). IsOfKind (has_two_passes task) outcome) (some_same task named (sym is ∙ asked)) h
+  kind_for : (task : Task) (outcome : Outcome) → asked ≡ Some task → IsOfKind task outcome →
+      (named : Task) → asked ≡ Some named → IsOfKind named outcome
+  kind_for task outcome is h named other =
+      subst (λ (task : Task). IsOfKind task outcome) (some_same task named (sym is ∙ other)) h
 
-  module _ (task : Task) (is : task_of words ≡ Some task)
+  module _ (task : Task) (is : asked ≡ Some task)
       (reads : TakesAtMost (MOST_BYTES + 1) source.known source.known_after) (later : source.faults ≤ source.faults_after) where
-    run_by : (outcome : Outcome) → IsToldOutcome source heard task outcome → IsOfKind (has_two_passes task) outcome →
-        IsWritten sink outcome → IsRun words source sink heard outcome
+    run_by : (outcome : Outcome) → IsToldOutcome source heard task outcome → IsOfKind task outcome →
+        IsWritten sink outcome → IsRun asked source sink heard outcome
     run_by outcome cause kind writes = record {
-      runs = runs_by words source heard task outcome is cause;
+      runs = runs_by asked source heard task outcome is cause;
       cause = rw is cause;
       kind = kind_for task outcome is kind;
       exact = exact_for task outcome is cause writes;
@@ -328,7 +352,7 @@ module _ (words : List (String Global)) (source sink : Span) (heard : Heard ℕ)
     told_cause before after h (inr (inr e)) =
         subst (IsToldOutcome source heard task) (sym e) (cause_cut source heard task before h)
 
-    pub told_run : (before after : Outcome) → IsTaskOutcome source heard task before → IsOfKind (has_two_passes task) before →
-        IsTold before after → IsWritten sink after → IsRun words source sink heard after
+    pub told_run : (before after : Outcome) → IsTaskOutcome source heard task before → IsOfKind task before →
+        IsTold before after → IsWritten sink after → IsRun asked source sink heard after
     told_run before after h kind told writes =
-        run_by after (told_cause before after h told) (kind_told (has_two_passes task) before after kind told) writes
+        run_by after (told_cause before after h told) (kind_told task before after kind told) writes

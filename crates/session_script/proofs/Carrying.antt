@@ -1,12 +1,11 @@
 -- From the run of a session with a script's configuration to what is said of the script.
-use Rattle.std.proofs.Common.{◌≡◌, ℕ, false, List, map, None, ap, subst, subst₂}
+use Rattle.std.proofs.Common.{◌≡◌, ℕ, false, List, map, None, subst, subst₂}
 use Rattle.av1_settings.specs.declared.config.Config.{Config}
 use Rattle.av1_settings.specs.declared.encoder.EncoderConfig.{EncoderConfig}
 use Rattle.av1_settings.specs.declared.level.LevelTables.{LevelTables}
 use Rattle.av1_settings.specs.Checks.{asks_passes, session_refusal}
-use Rattle.av1_settings.specs.Defaults.{default_rate_control}
 use Rattle.script_lines.specs.declared.script.Script.{Script}
-use Rattle.script_lines.specs.Grammar.{IsConfig, config_of}
+use Rattle.script_lines.specs.Grammar.{IsConfig}
 use Rattle.script_lines.specs.SettingLines.{encoder_of}
 use Rattle.quantizers.specs.Tables.{Tables}
 use Rattle.scripted.specs.NoLevels.{no_levels}
@@ -18,23 +17,17 @@ use Rattle.session_core.specs.Sessions.{IsSessionRun}
 use Rattle.session_core.specs.Told.{Heard}
 use Rattle.session_script.specs.Calls.{asked_by, asked_for}
 use Rattle.session_script.specs.Carried.{AreCallsOf, CarriesOut, IsValidScript, StopsAt, heard_first}
-use Rattle.session_script.proofs.ScriptConfigs.{one_pass}
+use Rattle.session_script.proofs.ScriptConfigs.{enc_of, valid_of}
 
 module _ (script : Script) (config : Config) (levels : LevelTables) (tables : Tables) (calls : List (Call ℕ ℕ)) (before after : Heard ℕ)
     (made : IsConfig script config) (none : session_refusal 8 levels config ≡ None) (own : levels ≡ no_levels) (same_tables : tables ≡ scripted_tables)
     (single : asks_passes config ≡ false) (asked : map asked_by calls ≡ map (asked_for config.enc) script.calls)
     (begun : before ≡ heard_first script) where
-  same : config ≡ config_of script default_rate_control
-  same = (one_pass script config made single).1
-
   enc : config.enc ≡ encoder_of script.settings
-  enc = ap (λ (config : Config). config.enc) same
+  enc = enc_of script config levels made none own single
 
   valid : IsValidScript script
-  valid = record {
-    one_pass = (one_pass script config made single).0;
-    valid = subst₂ (λ (levels : LevelTables) (config : Config). session_refusal 8 levels config ≡ None) own same none;
-  }
+  valid = valid_of script config levels made none own single
 
   all_asked : AreCallsOf script calls
   all_asked = subst (λ (enc : EncoderConfig). map asked_by calls ≡ map (asked_for enc) script.calls) enc asked

@@ -15,7 +15,7 @@ use Rattle.session_script.specs.declared.outcome.Account.TheVariants.{Turns, Sum
 use Rattle.session_script.specs.declared.words.Task.TheVariants.{Run}
 use Rattle.session_script.specs.Carried.{CarriesOut, script_refusal}
 use Rattle.session_script.specs.Outcomes.{IsScriptOutcome, IsSeedOutcome, summed_up}
-use Rattle.session_script.proofs.Answered.{some_faults}
+use Rattle.session_script.proofs.JobFaults.{some_faults}
 
 made_summary : (frames receives seed : ℕ) → (script_with frames receives seed).summary ≡ None
 unfolding script_with

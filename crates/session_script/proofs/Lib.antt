@@ -1,7 +1,11 @@
 pub mod Answered
 pub mod Carrying
+pub mod CarryingJobs
 pub mod CarryingPasses
 pub mod CommandWords
 pub mod Generating
 pub mod Giving
+pub mod JobAnswers
+pub mod JobFaults
+pub mod JobFrames
 pub mod ScriptConfigs

@@ -1,5 +1,5 @@
 -- What bytes are as the script of a word, and what may come of it: `run` is a session in one pass, `pass1` one that asks for pass
--- data, and `pass2` one that doesn't ask, but may be given some.
+-- data, `pass2` one that doesn't ask, but may be given some, and `gops` is a session for each job.
 use Rattle.std.specs.Prelude.{◌≡◌, ◌≢◌, ℕ, true, false, not, IsTrue, if◌then◌else◌, List, [], Option, Some, is_some, MatchOption, Result, Ok, Err}
 use Rattle.std.specs.List.{list_all}
 use Rattle.std.specs.Option.{option_map}
@@ -11,11 +11,12 @@ use Rattle.script_lines.specs.declared.script.Script.{Script}
 use Rattle.script_lines.specs.Grammar.{IsRateControl, is_act, script_of, summary_refusal}
 use Rattle.session_core.specs.Told.{Heard}
 use Rattle.session_script.specs.declared.outcome.Account.{Account}
-use Rattle.session_script.specs.declared.outcome.Account.TheVariants.{Turns, Summary, Passes}
+use Rattle.session_script.specs.declared.outcome.Account.TheVariants.{Turns, Summary, Passes, Packets}
 use Rattle.session_script.specs.declared.run.TheConstants.{CORRUPTED}
 use Rattle.session_script.specs.declared.words.Task.{Task}
-use Rattle.session_script.specs.declared.words.Task.TheVariants.{Run, FirstPass, SecondPass}
+use Rattle.session_script.specs.declared.words.Task.TheVariants.{Run, FirstPass, SecondPass, Gops}
 use Rattle.session_script.specs.Carried.{CarriesOut, StopsAt, options_of, script_refusal}
+use Rattle.session_script.specs.Jobs.{JobStops, JobsCarryOut}
 use Rattle.session_script.specs.Passes.{PassesCarryOut, PassesRefuse, PassesStopAt, pass_refusal}
 use Rattle.session_script.specs.Words.{dialect_of}
 
@@ -31,7 +32,7 @@ refusal_for task script control = script_refusal script control
 
 -- ---- what may come of a script
 
--- a session carried it out, and its turns are told with its print options
+-- a session carried it out, and its turns are told with its print options; or the sessions of its jobs did
 abbrev pub IsCarriedOut : Heard ℕ → Task → Account → Result Script ℕ → Type 0
 IsCarriedOut heard Run (Turns transcript options) (Ok script) =
     CarriesOut heard script transcript × (options ≡ options_of script)
@@ -39,6 +40,7 @@ IsCarriedOut heard FirstPass (Passes transcript options) (Ok script) =
     PassesCarryOut heard true script transcript × (options ≡ options_of script)
 IsCarriedOut heard SecondPass (Passes transcript options) (Ok script) =
     PassesCarryOut heard false script transcript × (options ≡ options_of script)
+IsCarriedOut heard (Gops workers) (Packets packets) (Ok script) = JobsCarryOut script packets
 IsCarriedOut heard task account script = ⊥
 
 -- its coder failed at the command of this number
@@ -47,6 +49,11 @@ IsStopped heard Run command (Ok script) = StopsAt heard script command
 IsStopped heard FirstPass command (Ok script) = PassesStopAt heard true script command
 IsStopped heard SecondPass command (Ok script) = PassesStopAt heard false script command
 IsStopped heard task command script = ⊥
+
+-- the coder of this job failed at the command of this number
+abbrev pub IsJobStopped : Task → ℕ → ℕ → Result Script ℕ → Type 0
+IsJobStopped (Gops workers) job command (Ok script) = JobStops script job command
+IsJobStopped task job command script = ⊥
 
 -- the summary is refused, by the error of this number
 abbrev pub HasRefusedSummary : ℕ → Result Script ℕ → Type 0

@@ -1,6 +1,5 @@
 -- The outcomes of a run: the status, the text and the report of each, and when it comes.
-use Rattle.std.specs.Prelude.{◌≡◌, ⊤, ℕ, ◌+◌, ◌≤◌, ◌⊎◌, ◌↔◌, Bool, true, false, IsTrue, nat_lt, List, [], ◌∷◌, ◌++◌, length, Option, None, Some, is_some, option_and_then, IfSome, MatchBool, MatchOption, Result, Err, codes, decimal, String}
-use Rattle.std.specs.declared.alloc.Global.{Global}
+use Rattle.std.specs.Prelude.{◌≡◌, ⊤, ℕ, ◌+◌, ◌≤◌, ◌⊎◌, ◌↔◌, Bool, true, false, IsTrue, nat_lt, List, [], ◌∷◌, ◌++◌, length, Option, None, Some, is_some, option_and_then, IfSome, MatchBool, MatchOption, Result, Err, codes, decimal}
 use Rattle.std.specs.Io.KnownBytes.{Appends, Keeps}
 use Rattle.coding_base.specs.Faults.{Rose}
 use Rattle.byte_streams.specs.Streams.{GrowsByPart, IsTooLong, ReadsAll, TakesAtMost}
@@ -8,19 +7,20 @@ use Rattle.script_lines.specs.declared.script.Script.{Script}
 use Rattle.session_core.specs.declared.pass_transcript.PassTranscript.{PassTranscript}
 use Rattle.session_core.specs.declared.transcript.Transcript.{Transcript}
 use Rattle.session_core.specs.Told.{Heard}
+use Rattle.session_text.specs.PacketLines.{packet_lines}
 use Rattle.session_text.specs.PassLines.{pass_report}
 use Rattle.session_text.specs.ReportLines.{report}
 use Rattle.session_text.specs.SummaryLines.{summary}
 use Rattle.session_script.specs.declared.outcome.Account.{Account}
-use Rattle.session_script.specs.declared.outcome.Account.TheVariants.{Turns, Summary, Passes}
+use Rattle.session_script.specs.declared.outcome.Account.TheVariants.{Turns, Summary, Passes, Packets}
 use Rattle.session_script.specs.declared.outcome.Outcome.{Outcome}
-use Rattle.session_script.specs.declared.outcome.Outcome.TheVariants.{WrongWords, Unreadable, TooLong, BadLine, RefusedPassData, Refused, CoderFault, Done, Unwritten, OutOfMemory}
+use Rattle.session_script.specs.declared.outcome.Outcome.TheVariants.{WrongWords, Unreadable, TooLong, BadLine, RefusedPassData, Refused, CoderFault, JobFault, Done, Unwritten, OutOfMemory}
 use Rattle.session_script.specs.declared.outcome.Report.{Report}
 use Rattle.session_script.specs.declared.run.TheConstants.{MOST_BYTES}
 use Rattle.session_script.specs.declared.words.Task.{Task}
 use Rattle.session_script.specs.declared.words.Task.TheVariants.{Generate}
-use Rattle.session_script.specs.Causes.{GivesData, HasRefusedPacket, HasRefusedSummary, IsCarriedOut, IsDue, IsGenerated, IsRefused, IsStopped, NamesFault, script_for}
-use Rattle.session_script.specs.Words.{has_two_passes, reads_script, task_of}
+use Rattle.session_script.specs.Causes.{GivesData, HasRefusedPacket, HasRefusedSummary, IsCarriedOut, IsDue, IsGenerated, IsJobStopped, IsRefused, IsStopped, NamesFault, script_for}
+use Rattle.session_script.specs.Words.{has_jobs, has_one_pass, has_two_passes, reads_script}
 
 -- ---- what an outcome answers
 
@@ -33,6 +33,7 @@ status_of Unreadable = 5
 status_of (Unwritten account) = 6
 status_of TooLong = 7
 status_of (CoderFault command) = 8
+status_of (JobFault job command) = 8
 status_of OutOfMemory = 9
 status_of (RefusedPassData number) = 10
 
@@ -46,13 +47,14 @@ config_of outcome = None
 
 abbrev pub command_of : Outcome → Option ℕ
 command_of (CoderFault command) = Some command
+command_of (JobFault job command) = Some command
 command_of outcome = None
 
--- a session in one pass has a transcript, and one in two passes has one of its own
+-- a session in one pass has a transcript, and one in two passes has one of its own; jobs have none
 abbrev pub session_in : Account → Option (Transcript ℕ ℕ)
 session_in (Turns transcript options) = Some transcript
 session_in (Summary transcript) = Some transcript
-session_in (Passes transcript options) = None
+session_in account = None
 
 abbrev pub passes_in : Account → Option (PassTranscript ℕ ℕ)
 passes_in (Passes transcript options) = Some transcript
@@ -80,11 +82,12 @@ report_of outcome = record {
   pass = pass_of outcome;
 }
 
--- the turns of a session as text: each with its lines, or all summed up
+-- the turns of a session as text: each with its lines, or all summed up; or the packets of jobs, each with its line
 abbrev pub text_in : Account → List ℕ
 text_in (Turns transcript options) = report options transcript.turns
 text_in (Summary transcript) = summary transcript.turns
 text_in (Passes transcript options) = pass_report options transcript.turns
+text_in (Packets packets) = packet_lines packets
 
 -- the text of an outcome; of some there is none
 abbrev pub text_of : Outcome → List ℕ
@@ -94,11 +97,22 @@ text_of (BadLine line) = codes "script line " ++ (decimal line ++ 10 ∷ [])
 text_of (RefusedPassData number) = codes "pass data " ++ (decimal number ++ 10 ∷ [])
 text_of (Refused number) = codes "invalid config " ++ (decimal number ++ 10 ∷ [])
 text_of (CoderFault command) = codes "coder fault " ++ (decimal command ++ 10 ∷ [])
+text_of (JobFault job command) =
+    codes "coder fault " ++ (decimal job ++ (codes " " ++ (decimal command ++ 10 ∷ [])))
 text_of outcome = []
 
--- what was done is a session in two passes where that was asked for, else one in one pass
-abbrev pub IsOfKind : Bool → Outcome → Type 0
-IsOfKind two outcome = IfSome (account_of outcome) (λ account. is_some (passes_in account) ≡ two)
+-- there is a transcript of one pass, or of two, exactly where a task has one
+pub record IsAccountOf (task : Task) (account : Account) : Type 0 where
+  pub one : is_some (session_in account) ≡ has_one_pass task
+  pub two : is_some (passes_in account) ≡ has_two_passes task
+
+-- what was done is of the kind of the task, and so is a fault: of a job, or of a session
+abbrev pub IsOfKind : Task → Outcome → Type 0
+IsOfKind task (Done account) = IsAccountOf task account
+IsOfKind task (Unwritten account) = IsAccountOf task account
+IsOfKind task (CoderFault command) = has_jobs task ≡ false
+IsOfKind task (JobFault job command) = has_jobs task ≡ true
+IsOfKind task outcome = ⊤
 
 -- the outcome where the sink failed while the text was written
 abbrev pub cut_short : Outcome → Outcome
@@ -158,6 +172,7 @@ IsScriptOutcome heard task script (RefusedPassData number) =
     HasRefusedSummary number script ⊎ HasRefusedPacket heard task number script
 IsScriptOutcome heard task script (Refused number) = IsRefused task number script
 IsScriptOutcome heard task script (CoderFault command) = IsStopped heard task command script
+IsScriptOutcome heard task script (JobFault job command) = IsJobStopped task job command script
 IsScriptOutcome heard task script (Done account) = IsCarriedOut heard task account script
 IsScriptOutcome heard task script OutOfMemory = ⊤
 IsScriptOutcome heard task script outcome = ⊥
@@ -188,10 +203,10 @@ abbrev pub IsToldOutcome : Span → Heard ℕ → Task → Outcome → Type 0
 IsToldOutcome source heard task (Unwritten account) = IsTaskOutcome source heard task (Done account)
 IsToldOutcome source heard task outcome = IsTaskOutcome source heard task outcome
 
--- each outcome comes only so
-abbrev pub IsOutcome : List (String Global) → Span → Heard ℕ → Outcome → Type 0
-IsOutcome words source heard outcome =
-    MatchOption (task_of words) (outcome ≡ WrongWords) (λ task. IsToldOutcome source heard task outcome)
+-- each outcome comes only so, where this task was asked for, if one was
+abbrev pub IsOutcome : Option Task → Span → Heard ℕ → Outcome → Type 0
+IsOutcome asked source heard outcome =
+    MatchOption asked (outcome ≡ WrongWords) (λ task. IsToldOutcome source heard task outcome)
 
 -- the status for a source's bytes, where neither coder nor sink fails, and no pass data is refused that the script gives
 abbrev pub IsDueFor : Task → List ℕ → ℕ → Type 0
@@ -227,22 +242,22 @@ pub record IsWritten (sink : Span) (outcome : Outcome) : Type 0 where
 abbrev pub IsTold : Outcome → Outcome → Type 0
 IsTold outcome told = (told ≡ outcome) ⊎ (told ≡ OutOfMemory) ⊎ (told ≡ cut_short outcome)
 
--- a run of the program over a source and a sink, what its coder, its detector and its mean scales tell afterwards, and what
--- it came to
+-- a run of the program over a source and a sink, where its words ask for this task, if they ask for one: what the coder, the
+-- detector and the mean scales of its session tell afterwards, if it is a single one, and what it came to
 pub record IsRun
-    (words : List (String Global)) (source sink : Span) (heard : Heard ℕ) (outcome : Outcome)
+    (asked : Option Task) (source sink : Span) (heard : Heard ℕ) (outcome : Outcome)
     : Type 0 where
   -- the words alone decide whether there is a run
-  pub runs : (status_of outcome ≡ 2) ↔ (task_of words ≡ None)
+  pub runs : (status_of outcome ≡ 2) ↔ (asked ≡ None)
   -- each outcome comes only where its cause is
-  pub cause : IsOutcome words source heard outcome
-  -- what `pass1` and `pass2` come to is a session in two passes, and what other words come to, one in one pass
-  pub kind : (task : Task) → task_of words ≡ Some task → IsOfKind (has_two_passes task) outcome
+  pub cause : IsOutcome asked source heard outcome
+  -- what it comes to is a session in one pass or in two, or jobs, as the task is
+  pub kind : (task : Task) → asked ≡ Some task → IsOfKind task outcome
   -- where the source doesn't fail, its bytes decide the status
-  pub exact : (task : Task) → task_of words ≡ Some task → IsTrue (reads_script task) → ¬ HasFault source →
+  pub exact : (task : Task) → asked ≡ Some task → IsTrue (reads_script task) → ¬ HasFault source →
       IfSome source.known (λ bytes. IsStatus sink task bytes (status_of outcome))
   -- a seed's script is carried out; or memory ran out, or the sink failed while the text was written
-  pub generates : (seed : ℕ) → task_of words ≡ Some (Generate seed) →
+  pub generates : (seed : ℕ) → asked ≡ Some (Generate seed) →
       (status_of outcome ≡ 0) ⊎ (status_of outcome ≡ 9) ⊎ ((status_of outcome ≡ 6) × HasFault sink)
   -- what is read, and written
   pub reads : TakesAtMost (MOST_BYTES + 1) source.known source.known_after
@@ -250,8 +265,8 @@ pub record IsRun
   pub writes : IsWritten sink outcome
 
 -- what the program answers: the report of a run with a coder, a detector and mean scales of its own
-pub record IsAnswer (words : List (String Global)) (source sink : Span) (answer : Report) : Type 0 where
+pub record IsAnswer (asked : Option Task) (source sink : Span) (answer : Report) : Type 0 where
   pub outcome : Outcome
   pub heard : Heard ℕ
   pub is : answer ≡ report_of outcome
-  pub run : IsRun words source sink heard outcome
+  pub run : IsRun asked source sink heard outcome

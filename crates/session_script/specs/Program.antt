@@ -5,6 +5,7 @@ use Rattle.std.specs.Io.KnownBytes.{Appends}
 use Rattle.byte_streams.specs.Streams.{GrowsByPart}
 use Rattle.session_script.specs.declared.outcome.Report.{Report}
 use Rattle.session_script.specs.Outcomes.{HasFault, IsAnswer, Span}
+use Rattle.session_script.specs.Words.{task_of}
 
 -- a text was printed, whole at status 0, or the sink failed
 pub record Prints (sink : Span) (text : List ℕ) (status : ℕ) : Type 0 where
@@ -16,4 +17,4 @@ pub record Prints (sink : Span) (text : List ℕ) (status : ℕ) : Type 0 where
 -- the status is that of an answer
 abbrev pub IsAnswered : List (String Global) → Span → Span → ℕ → Type 0
 IsAnswered words source sink status =
-    (answer : Report) × (status ≡ answer.status) × IsAnswer words source sink answer
+    (answer : Report) × (status ≡ answer.status) × IsAnswer (task_of words) source sink answer

@@ -1,7 +1,8 @@
-ghost use Rattle.std.specs.Prelude.{◌≡◌, ◌≤◌, ◌++◌, map, flat_map, IfOk, OnOk, IfSome, IsTrue};
+ghost use Rattle.std.specs.Prelude.{◌≡◌, ◌≤◌, ◌++◌, map, flat_map, count_by, replicate, IfOk, OnOk, IfSome, IsTrue};
 ghost use Rattle.std.specs.List.{list_all};
 ghost use Rattle.script_lines.specs.Grammar.{is_act};
 ghost use Rattle.session_script.specs.Calls.{asked_by, asked_for, asked_for_passes, asked_in_any, asked_in_passes, own_picture, plain_picture};
+ghost use Rattle.session_script.specs.Jobs.{is_send};
 
 use av1_frame::{ChromaSampling, Frame};
 use av1_settings::EncoderConfig;
@@ -12,7 +13,7 @@ use std::alloc::Global;
 use std::sync::Arc;
 
 /// A picture that frames share.
-type Picture = Arc<Frame<u8>>;
+pub type Picture = Arc<Frame<u8>>;
 
 /// The calls that a script asks for in one pass, none of which gives pass data. Its plain frames share one picture of the settings'
 /// size, which is made for the first of them; a frame of another size has a picture of its own, with the settings' sampling of chroma.
@@ -125,6 +126,35 @@ fn session_call(
         Action::Flush => Ok(Call::Flush),
         Action::Receive => Ok(Call::Receive),
     }
+}
+
+/// The frames that a script sends, all of them one picture of the settings' size, which is made for the first.
+pub fn sent_frames(
+    alloc: Global,
+    enc: &EncoderConfig,
+    asked: &[ScriptCall],
+) -> Result<Vec<Picture>, OutOfMemory>
+    requires wide { enc.now.width ≤ 65535 }
+    requires high { enc.now.height ≤ 65535 }
+    ensures { IfOk result (λ frames. map (λ frame. frame.value) frames.items
+        ≡ replicate (count_by is_send asked.now) (own_picture enc.now)) }
+{
+    let mut picture = None;
+    let mut frames = Vec::new(alloc);
+    for _ in 0..sends(asked) {
+        frames.push(shared_picture(alloc, enc, &mut picture)?)?;
+    }
+    Ok(frames)
+}
+
+// How many frames are sent.
+fn sends(asked: &[ScriptCall]) -> usize
+    ensures { result ≡ count_by is_send asked.now }
+{
+    asked
+        .iter()
+        .filter(|call| matches!(call, ScriptCall::Act(Action::Send)))
+        .count()
 }
 
 // The picture that plain frames share, which is made where there is none yet.

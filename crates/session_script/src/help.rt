@@ -6,6 +6,7 @@ prints what each call answered and what was coded, in which order.
 Usage: session_script run < SCRIPT
        session_script pass1 < SCRIPT
        session_script pass2 < SCRIPT
+       session_script gops N < SCRIPT
        session_script gen N
 
 Words:
@@ -15,6 +16,11 @@ Words:
                 lines pass HEX and summary HEX
   pass2         the same as a second pass: the script has the summary, and what
                 was said of a frame before the receive that codes it
+  gops N        reads a script that has sends and then one flush, and no still;
+                codes its frames in jobs, one from frame 0 and from each cut on,
+                on N threads, 1 to 16, and prints the line of each packet; what
+                is said of frames is by their numbers in the script, and each
+                job has a coder of its own
   gen N         carries out the script that N makes, 1 to 10000, and prints what
                 it came to in six lines; reads nothing
   --help        prints this text
@@ -60,7 +66,7 @@ marked *:
                       (follows from keyint)
   summary HEX         a first pass's summary, 2 to 400 digits 0-9a-f, two for a
                       byte; makes a second pass, of pass1 too, and is refused
-                      in a run, which has one pass (none)
+                      in run and gops, which have one pass (none)
   cut P *             a scene begins with frame P, which is a key frame (none)
   bytes P N *         frame P has N bytes, 1 to 4096; the last line for P counts
                       (100 for a key frame, 20 for any other)
@@ -87,17 +93,19 @@ Calls, at most 100000 in all, with an N of at least 1:
 Status:
   0   done: the report is printed
   2   the words after the program's name aren't one of those above
-  3   script line K: line K, the first being 1, is wrong, or can't stand there
+  3   script line K: line K, the first being 1, is wrong, or can't stand there,
+      or is missing: the flush of gops
   4   invalid config N: a setting is out of its range, 1 the width, 2 the
       height, 3 and 4 the aspect, 5 and 6 the size as it is to be shown, 7 the
       lookahead, 8 the greatest distance of key frames, 11 and 12 the time
       base, 13 the reservoir, 19 the level, 21 the quantizer, 22 the depth; or
       14 there are switch frames without lowlatency, 15 timing with still, 16
-      two passes without a bitrate, or 17 a summary in a run, or none in pass2
+      two passes without a bitrate, or 17 a summary in one pass, or none in pass2
   5   standard input can't be read
   6   standard output can't be written
   7   the script has more than 1048576 bytes
-  8   coder fault K: the coder failed, as fault says, behind K commands
+  8   coder fault K: the coder failed, as fault says, behind K commands; of gops
+      coder fault J K: that of job J, the first being 0
   9   memory ran out
   10  pass data N: 1 the summary's bytes are no summary; or a pass line is
       refused, 2 as it names no kind of frame, 3 as too many frames are ahead,
@@ -119,6 +127,7 @@ pub const HELP_LINES: &[&str] = &[
     "Usage: session_script run < SCRIPT",
     "       session_script pass1 < SCRIPT",
     "       session_script pass2 < SCRIPT",
+    "       session_script gops N < SCRIPT",
     "       session_script gen N",
     "",
     "Words:",
@@ -128,6 +137,11 @@ pub const HELP_LINES: &[&str] = &[
     "                lines pass HEX and summary HEX",
     "  pass2         the same as a second pass: the script has the summary, and what",
     "                was said of a frame before the receive that codes it",
+    "  gops N        reads a script that has sends and then one flush, and no still;",
+    "                codes its frames in jobs, one from frame 0 and from each cut on,",
+    "                on N threads, 1 to 16, and prints the line of each packet; what",
+    "                is said of frames is by their numbers in the script, and each",
+    "                job has a coder of its own",
     "  gen N         carries out the script that N makes, 1 to 10000, and prints what",
     "                it came to in six lines; reads nothing",
     "  --help        prints this text",
@@ -173,7 +187,7 @@ pub const HELP_LINES: &[&str] = &[
     "                      (follows from keyint)",
     "  summary HEX         a first pass's summary, 2 to 400 digits 0-9a-f, two for a",
     "                      byte; makes a second pass, of pass1 too, and is refused",
-    "                      in a run, which has one pass (none)",
+    "                      in run and gops, which have one pass (none)",
     "  cut P *             a scene begins with frame P, which is a key frame (none)",
     "  bytes P N *         frame P has N bytes, 1 to 4096; the last line for P counts",
     "                      (100 for a key frame, 20 for any other)",
@@ -200,17 +214,19 @@ pub const HELP_LINES: &[&str] = &[
     "Status:",
     "  0   done: the report is printed",
     "  2   the words after the program's name aren't one of those above",
-    "  3   script line K: line K, the first being 1, is wrong, or can't stand there",
+    "  3   script line K: line K, the first being 1, is wrong, or can't stand there,",
+    "      or is missing: the flush of gops",
     "  4   invalid config N: a setting is out of its range, 1 the width, 2 the",
     "      height, 3 and 4 the aspect, 5 and 6 the size as it is to be shown, 7 the",
     "      lookahead, 8 the greatest distance of key frames, 11 and 12 the time",
     "      base, 13 the reservoir, 19 the level, 21 the quantizer, 22 the depth; or",
     "      14 there are switch frames without lowlatency, 15 timing with still, 16",
-    "      two passes without a bitrate, or 17 a summary in a run, or none in pass2",
+    "      two passes without a bitrate, or 17 a summary in one pass, or none in pass2",
     "  5   standard input can't be read",
     "  6   standard output can't be written",
     "  7   the script has more than 1048576 bytes",
-    "  8   coder fault K: the coder failed, as fault says, behind K commands",
+    "  8   coder fault K: the coder failed, as fault says, behind K commands; of gops",
+    "      coder fault J K: that of job J, the first being 0",
     "  9   memory ran out",
     "  10  pass data N: 1 the summary's bytes are no summary; or a pass line is",
     "      refused, 2 as it names no kind of frame, 3 as too many frames are ahead,",

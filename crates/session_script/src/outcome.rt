@@ -2,14 +2,15 @@ ghost use Rattle.std.specs.Prelude.{◌≡◌, IfOk, string_bytes};
 ghost use Rattle.session_script.specs.Outcomes.{status_of, line_of, config_of, command_of, session_in, passes_in, transcript_of, pass_of, report_of, text_in, text_of, is_silent, cut_short, sums, summed_up};
 
 use coding_base::OutOfMemory;
+use gop_board::PacketList;
 use session_core::{PassTranscript, Transcript};
-use session_text::{ReportOptions, pass_report_text, report_text, summary_text};
+use session_text::{ReportOptions, packets_text, pass_report_text, report_text, summary_text};
 use std::alloc::Global;
 
 // What a session in one pass did, and what one in two passes did.
 type Transcripts = (Option<Transcript<u8, u64>>, Option<PassTranscript<u8, u64>>);
 
-/// What a session did, and how that is told.
+/// What was done, and how that is told.
 #[derive(Drop)]
 pub enum Account {
     /// A session in one pass: each turn with its lines, and with these options.
@@ -18,6 +19,8 @@ pub enum Account {
     Summary(Transcript<u8, u64>),
     /// A session in two passes: each turn with its lines, and with these options.
     Passes(PassTranscript<u8, u64>, ReportOptions),
+    /// Jobs side by side: the packets of all.
+    Packets(PacketList<u8>),
 }
 
 /// What the run of a script came to.
@@ -37,6 +40,13 @@ pub enum Outcome {
     Refused(u8),
     /// The coder failed at the command of this number, from 0.
     CoderFault(u64),
+    /// The coder of a job failed; it is the least such job.
+    JobFault {
+        /// The job's number, from 0.
+        job: u64,
+        /// The number of the command at which it failed, from 0.
+        command: u64,
+    },
     /// The calls were carried out, and what came of them was written.
     Done(Account),
     /// The calls were carried out, and the sink failed while that was written.
@@ -75,6 +85,7 @@ impl Account {
             Account::Passes(transcript, options) => {
                 pass_report_text(alloc, *options, transcript.turns.as_slice())
             }
+            Account::Packets(packets) => packets_text(alloc, packets.as_slice()),
         }
     }
 
@@ -87,6 +98,7 @@ impl Account {
                 (Some(transcript), None)
             }
             Account::Passes(transcript, _) => (None, Some(transcript)),
+            Account::Packets(_) => (None, None),
         }
     }
 
@@ -114,7 +126,7 @@ impl Outcome {
             Outcome::Unreadable => 5,
             Outcome::Unwritten(..) => 6,
             Outcome::TooLong => 7,
-            Outcome::CoderFault(_) => 8,
+            Outcome::CoderFault(_) | Outcome::JobFault { .. } => 8,
             Outcome::OutOfMemory => 9,
             Outcome::RefusedPassData(_) => 10,
         }
@@ -142,7 +154,7 @@ impl Outcome {
         ensures { result ≡ command_of self.now }
     {
         match self {
-            Outcome::CoderFault(command) => Some(*command),
+            Outcome::CoderFault(command) | Outcome::JobFault { command, .. } => Some(*command),
             _ => None,
         }
     }
@@ -176,6 +188,9 @@ impl Outcome {
             Outcome::RefusedPassData(number) => Ok(format!(in alloc; "pass data {number}\n")?),
             Outcome::Refused(number) => Ok(format!(in alloc; "invalid config {number}\n")?),
             Outcome::CoderFault(command) => Ok(format!(in alloc; "coder fault {command}\n")?),
+            Outcome::JobFault { job, command } => {
+                Ok(format!(in alloc; "coder fault {job} {command}\n")?)
+            }
             _ => Ok(String::new(alloc)),
         }
     }

@@ -1,4 +1,4 @@
-ghost use Rattle.std.specs.Prelude.{◌≡◌, ◌≢◌, ◌+◌, ◌≤◌, ℕ, IsTrue, OnOk, Ok, None, Some, if◌then◌else◌};
+ghost use Rattle.std.specs.Prelude.{◌≡◌, ◌≢◌, ◌+◌, ◌≤◌, ℕ, IsTrue, OnOk, Ok, None, Some, false, if◌then◌else◌};
 ghost use Rattle.std.specs.List.{list_any};
 ghost use Rattle.std.specs.Result.{result_err};
 ghost use Rattle.av1_settings.specs.Checks.{IsValid};
@@ -10,7 +10,7 @@ ghost use Rattle.session_script.specs.Causes.{script_for};
 ghost use Rattle.session_script.specs.declared.run.TheConstants.{MOST_BYTES};
 ghost use Rattle.session_script.specs.declared.words.Task.TheVariants.{Run, FirstPass, SecondPass, Generate};
 ghost use Rattle.session_script.specs.Outcomes.{IsAnswer, IsOfKind, IsRun, IsScriptOutcome, IsSeedOutcome, IsSourceOutcome, IsTaskOutcome, IsTold, IsWritten, span, status_of};
-ghost use Rattle.session_script.specs.Words.{has_two_passes, reads_script, task_of};
+ghost use Rattle.session_script.specs.Words.{has_jobs, reads_script, task_of};
 
 use crate::calls::{pass_calls, session_calls};
 use crate::outcome::{Account, Outcome, Report};
@@ -29,8 +29,8 @@ use std::alloc::Global;
 /// The most bytes of a script.
 pub const MOST_BYTES: usize = 1_048_576;
 
-// The number of the error for pass data that is no summary.
-const CORRUPTED: u8 = 1;
+/// The number of the error for pass data that is no summary.
+pub const CORRUPTED: u8 = 1;
 
 /// Does what the words of the command line after the program's name ask for: `run` carries out the script that the source
 /// holds in one pass, and puts its report into the sink; `pass1` asks for pass data, takes it behind each receive, and reports it
@@ -49,7 +49,7 @@ pub fn run_script<R: Source, W: Sink>(
     source: &mut R,
     sink: &mut W,
 ) -> Report
-    ensures outcome { IsAnswer words.now (span R.left R.faults source.old source.new)
+    ensures outcome { IsAnswer (task_of words.now) (span R.left R.faults source.old source.new)
         (span W.held W.faults sink.old sink.new) result }
     ensures untouched { task_of words.now ≡ None →
         (source.new ≡ source.old) × (sink.new ≡ sink.old) }
@@ -81,7 +81,7 @@ pub fn run_with<R: Source, W: Sink>(
     detector: &mut ScriptedDetector,
     scales: &mut ScriptedScales,
 ) -> Outcome
-    ensures outcome { IsRun words.now (span R.left R.faults source.old source.new)
+    ensures outcome { IsRun (task_of words.now) (span R.left R.faults source.old source.new)
         (span W.held W.faults sink.old sink.new) (heard_of coder.new detector.new scales.new)
         result }
     ensures untouched { task_of words.now ≡ None →
@@ -106,9 +106,10 @@ fn carry_out<R: Source>(
     detector: &mut ScriptedDetector,
     scales: &mut ScriptedScales,
 ) -> Outcome
+    requires { has_jobs task ≡ false }
     ensures cause { IsTaskOutcome (span R.left R.faults source.old source.new)
         (heard_of coder.new detector.new scales.new) task result }
-    ensures kind { IsOfKind (has_two_passes task) result }
+    ensures kind { IsOfKind task result }
     ensures reads { TakesAtMost (MOST_BYTES + 1) (R.left source.old) (R.left source.new) }
     ensures later { R.faults source.old ≤ R.faults source.new }
     ensures unread { (seed : ℕ) → task ≡ Generate seed → source.new ≡ source.old }
@@ -118,6 +119,7 @@ fn carry_out<R: Source>(
         Task::Run | Task::FirstPass | Task::SecondPass => {
             carry_out_source(alloc, task, source, coder, detector, scales)
         }
+        Task::Gops(_) => unreachable!(),
     }
 }
 
@@ -130,10 +132,11 @@ fn carry_out_source<R: Source>(
     detector: &mut ScriptedDetector,
     scales: &mut ScriptedScales,
 ) -> Outcome
-    requires { IsTrue (reads_script task) }
+    requires reads { IsTrue (reads_script task) }
+    requires alone { has_jobs task ≡ false }
     ensures cause { IsSourceOutcome (span R.left R.faults source.old source.new)
         (heard_of coder.new detector.new scales.new) task result }
-    ensures kind { IsOfKind (has_two_passes task) result }
+    ensures kind { IsOfKind task result }
     ensures reads { TakesAtMost (MOST_BYTES + 1) (R.left source.old) (R.left source.new) }
     ensures later { R.faults source.old ≤ R.faults source.new }
 {
@@ -153,7 +156,8 @@ fn carry_out_bytes(
     detector: &mut ScriptedDetector,
     scales: &mut ScriptedScales,
 ) -> Outcome
-    requires { IsTrue (reads_script task) }
+    requires reads { IsTrue (reads_script task) }
+    requires alone { has_jobs task ≡ false }
     ensures outcome { IsScriptOutcome (heard_of coder.new detector.new scales.new) task
         (script_for task bytes.now) result }
 {
@@ -166,7 +170,7 @@ fn carry_out_bytes(
         Task::Run => carry_out_script(alloc, &script, coder, detector, scales),
         Task::FirstPass => carry_out_passes(alloc, true, &script, coder, detector, scales),
         Task::SecondPass => carry_out_passes(alloc, false, &script, coder, detector, scales),
-        Task::Generate(_) => unreachable!(),
+        Task::Generate(_) | Task::Gops(_) => unreachable!(),
     }
 }
 
@@ -325,8 +329,8 @@ fn ask_reservoir(prints: &[Print]) -> bool
     prints.iter().any(|print| matches!(print, Print::Reservoir))
 }
 
-// Writes the text of an outcome, and says what it comes to then.
-fn tell<W: Sink>(alloc: Global, outcome: Outcome, sink: &mut W) -> Outcome
+/// Writes the text of an outcome, and says what it comes to then.
+pub fn tell<W: Sink>(alloc: Global, outcome: Outcome, sink: &mut W) -> Outcome
     requires { status_of outcome ≢ 6 }
     ensures told { IsTold outcome result }
     ensures writes { IsWritten (span W.held W.faults sink.old sink.new) result }

@@ -1,4 +1,5 @@
 mod detector_and_faults;
+mod jobs;
 mod low_latency;
 mod opaque_values;
 mod rate_control;

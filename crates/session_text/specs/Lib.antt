@@ -1,4 +1,5 @@
 pub mod CommandLines
+pub mod PacketLines
 pub mod PassLines
 pub mod ReportLines
 pub mod SummaryLines

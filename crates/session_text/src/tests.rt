@@ -173,6 +173,18 @@ fn a_packet_stands_behind_its_commands(rt: HostRuntime) -> Result<(), Fail> {
 }
 
 #[test]
+fn packets_have_a_line_each(rt: HostRuntime) -> Result<(), Fail> {
+    let alloc = rt.alloc();
+    let mut packets = Vec::new(alloc);
+    packets.push(packet(Sequence::from_slice(alloc, &[0x12, 0, 7])?))?;
+    packets.push(packet(Sequence::new(alloc)))?;
+    let text = packets_text(alloc, &packets)?;
+    let lines = "Frame 4 - Inter frame - 3 bytes\nFrame 4 - Inter frame - 0 bytes\n";
+    assert_eq!(rt; text.as_str(), lines);
+    Ok(())
+}
+
+#[test]
 fn a_session_has_six_lines(rt: HostRuntime) -> Result<(), Fail> {
     let alloc = rt.alloc();
     let mut turns: Vec<Turn<u8, u64>> = Vec::new(alloc);

@@ -1,8 +1,10 @@
-use Rattle.std.proofs.Common.{◌≡◌, true, Some, Ok, Err, refl, ap, sym, ◌∙◌, subst}
+use Rattle.std.proofs.Common.{◌≡◌, None, true, Some, Ok, Err, is_some, refl, ap, sym, ◌∙◌, subst}
+use Rattle.std.proofs.lemmas.Bool.{false≢true}
 use Rattle.av1_settings.specs.declared.status.EncoderStatus.TheVariants.{Failure}
 use Rattle.session_core.specs.Contexts.{Session, GivesReply, IsCall}
 use Rattle.session_core.specs.Told.{heard}
-use Rattle.session_core.proofs.Calling.{call-of-failed, call-of-fault, call-of-turn, held-failed, held-ready, held-turn, none-of, session-same, session_of}
+use Rattle.session_core.specs.Turns.{HaveBytes}
+use Rattle.session_core.proofs.Calling.{call-of-failed, call-of-fault, call-of-turn, held-failed, held-ready, held-turn, kept-bytes, none-of, session-same, session_of}
 use Rattle.session_core.proofs.context_inner.ContextInner.call.Goals as goal
 
 pub ready_turn-turn-requires-clause-ready : goal.ready_turn-turn-requires-clause-ready
@@ -26,6 +28,7 @@ returns-in-Ok g c =
           (call-of-turn inside.enc inside.state c.ready_turn-turn.new.self inside.failure inside.detector c.ready_turn-turn.new.detector inside.scales c.ready_turn-turn.new.scales inside.coder c.ready_turn-turn.new.coder
           c.args.call c.in-Ok.turn _ _ (none-of _ (sym c.if-is_some.ensures)) c.in-Ok.ensures.turn c.ready_turn-turn.ensures.tables c.in-Ok.ensures.refused
           c.ready_turn-turn.ensures.unused c.ready_turn-turn.ensures.later);
+      bytes = λ none. kept-bytes inside.enc c.ready_turn-turn.new.self c.in-Ok.ensures.kept;
       again = λ flush none flushed.
           let was : inside.state.flushed ≡ true = ap (λ (s : Session g.row.T.Denot g.row.O.Denot g.row.D.Denot g.row.S.Denot g.row.C.Denot). s.moment.flushed) c.self.view_is ∙ flushed in
           let same = c.in-Ok.ensures.again flush was in
@@ -64,3 +67,12 @@ returns-then-is_some-clause-call g c =
 pub invariant_of-self-in-Err : goal.invariant_of-self-in-Err
 invariant_of-self-in-Err g c =
     held-failed c.self.inside.enc c.self.inside.state c.ready_turn-turn.new.self c.self.inside.failure (Some c.in-Err.fault) c.in-Err.fault c.self.invariant refl
+
+pub returns-in-Err-clause-bytes : goal.returns-in-Err-clause-bytes
+returns-in-Err-clause-bytes g c = λ none. absurd (cc)
+
+pub returns-then-is_some-clause-bytes : goal.returns-then-is_some-clause-bytes
+returns-then-is_some-clause-bytes g c =
+    let Holds : Session g.row.T.Denot g.row.O.Denot g.row.D.Denot g.row.S.Denot g.row.C.Denot → Type 0 = λ now.
+    now.failure ≡ None → HaveBytes now.moment.log in
+    subst Holds c.self.view_is (λ none. absurd (false≢true (sym (ap is_some none) ∙ sym c.if-is_some.ensures)))

@@ -6,6 +6,7 @@ use Rattle.session_core.proofs.context_inner.ContextInner.receive_packet.Goals a
 pub returns : goal.returns
 returns g c = record {
   call = call-gives GivesReceived Receive c.args.self.now c.call.new.self _ _ c.call.result c.received.result c.received.ensures.reply c.received.ensures.err c.call.ensures.call;
+  bytes = c.call.ensures.bytes;
 }
 
 pub received-requires : goal.received-requires

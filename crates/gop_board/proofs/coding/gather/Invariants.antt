@@ -1,7 +1,7 @@
 use Rattle.std.proofs.Common.{◌≡◌}
 use Rattle.gop_board.specs.Workers.{IsResultOf}
 use Rattle.gop_board.proofs.Gathers.{IsGathering}
-use Rattle.gop_board.proofs.encode.collect.Given as goal
+use Rattle.gop_board.proofs.coding.gather.Given as goal
 
 -- the results of the jobs so far are gathered, and collected
 abbrev pub invariant-loop-number : goal.invariant-loop-number

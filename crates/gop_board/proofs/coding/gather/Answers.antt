@@ -2,9 +2,9 @@ use Rattle.std.proofs.Common.{◌≡◌, ℕ, ◌+◌, ◌<◌, length, Some, re
 use Rattle.std.specs.Prelude.{slice_get}
 use Rattle.std.proofs.lemmas.Option.{slice_get_read}
 use Rattle.gop_board.specs.declared.job.Job.{Job}
-use Rattle.gop_board.proofs.Encodes.{least-of, whole-of}
+use Rattle.gop_board.proofs.Encodes.{gathered-of}
 use Rattle.gop_board.proofs.Gathers.{gathering-more, gathering-none}
-use Rattle.gop_board.proofs.encode.collect.Goals as goal
+use Rattle.gop_board.proofs.coding.gather.Goals as goal
 
 pub loop-number-init : goal.loop-number-init
 loop-number-init g c = (gathering-none _ _ c.new-gathered.ensures, c.requires.uncollected)
@@ -46,18 +46,12 @@ loop-number-preserved g c =
       gathering-more _ c.loop-number.number c.loop-number.gathered c.add.new.self c.loop-number.invariant.0 c.take_result-found.result
           (c.requires.belonging c.loop-number.number c.take_result-found.result
           (subst (λ (n : ℕ). g.N.Run.belongs n c.take_result-found.result) number c.take_result-found.ensures.belongs))
-          c.in-Ok.ensures,
+          c.in_ok-add.ensures,
       c.take_result-found.ensures.next ∙ ap (λ (n : ℕ). n + 1) number,
     )
 
-pub returns-in-None-clause-joins : goal.returns-in-None-clause-joins
-returns-in-None-clause-joins g c =
+pub returns : goal.returns
+returns g c =
     let every : c.loop-number.number ≡ length c.args.jobs.now = omega arith in
-    whole-of c.args.cfg.now.enc c.args.tables.now (g.M.MakeSession.told c.args.maker.now) g.M.Coder.FrameCoder.told c.args.jobs.now
-    c.loop-number.number c.loop-number.gathered c.loop-number.invariant.0 every c.loop-number.gathered.packets refl c.in-None.is
-
-pub returns-clause-error : goal.returns-clause-error
-returns-clause-error g c =
-    let every : c.loop-number.number ≡ length c.args.jobs.now = omega arith in
-    least-of c.args.cfg.now.enc c.args.tables.now (g.M.MakeSession.told c.args.maker.now) g.M.Coder.FrameCoder.told c.args.jobs.now
-    c.loop-number.number c.loop-number.gathered c.loop-number.invariant.0 every c.in-Some.fault c.in-Some.is
+    gathered-of c.args.cfg.now.enc c.args.tables.now (g.M.MakeSession.told c.args.maker.now) g.M.Coder.FrameCoder.told c.args.jobs.now
+    c.loop-number.number c.loop-number.gathered c.loop-number.invariant.0 every

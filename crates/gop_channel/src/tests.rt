@@ -1,0 +1,3 @@
+mod channels;
+mod driving;
+mod making;
