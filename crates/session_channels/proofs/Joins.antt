@@ -1,5 +1,5 @@
 -- Stretches of a course, one behind another.
-use Rattle.std.proofs.Common.{◌≡◌, ◌⊎◌, inl, inr, ℕ, ◌≤◌, Bool, List, [], ◌∷◌, ◌++◌, map, Option, Some, None, Result, Ok, Err, refl, sym, ap, ◌∙◌, subst, append-nil, append_assoc, arith}
+use Rattle.std.proofs.Common.{◌≡◌, Bool, List, [], ◌∷◌, ◌++◌, map, Option, Some, None, Result, Ok, refl, sym, ap, ◌∙◌, subst, append-nil, append_assoc, arith}
 use Rattle.std.specs.Option.{option_map}
 use Rattle.std.proofs.lemmas.List.{map-append}
 use Rattle.std.proofs.lemmas.List.Concat.{flat_map-append}
@@ -11,7 +11,7 @@ use Rattle.session_channels.specs.declared.counts.Counts.{Counts}
 use Rattle.session_channels.specs.declared.fault.ChannelFault.{ChannelFault}
 use Rattle.session_channels.specs.declared.fault.ChannelFault.TheVariants.{Coder, FrameRefused, PassData, PassDataMissing, PassDataKind, PassDataEnded, PacketsClosed, OutOfMemory}
 use Rattle.session_channels.specs.Acts.{Act, AreActs, Ears, IsAct, Point, data_handed, data_in, frame_taken, frames_in, metrics_in, metrics_taken, packet_given, packets_in}
-use Rattle.session_channels.specs.Courses.{Drove, IsCause, IsNothing, IsSevered, LacksMetrics, PutsAll, PutsPackets, SaidClosed, SaidNoMemory, Stopped, TakesAll, Turns, Went}
+use Rattle.session_channels.specs.Courses.{IsCause, IsNothing, PutsAll, PutsPackets, SaidClosed, Stopped, TakesAll, Turns, Went}
 use Rattle.session_channels.specs.Ends.{FrameMessage}
 use Rattle.session_channels.specs.Queues.{IsTurn, NoneFell, Queue}
 

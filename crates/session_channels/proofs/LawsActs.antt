@@ -1,18 +1,16 @@
 -- What each act of a worker leaves of its session, and what holds along its acts.
-use Rattle.std.proofs.Common.{◌≡◌, ◌⊎◌, inl, inr, ℕ, ◌+◌, ◌≤◌, ◌==◌, Bool, true, false, cond, ◌&&◌, IsTrue, MatchBool, MatchOption, List, [], ◌∷◌, ◌++◌, length, length-append, option_to_list, Option, Some, None, Result, Ok, Err, ℤ, pos, int_lt, unsigned_abs, refl, sym, ap, ◌∙◌, subst, append_assoc, arith}
-use Rattle.arrayvec.specs.ArrayVec.{ArrayVec}
+use Rattle.std.proofs.Common.{◌≡◌, ◌⊎◌, inl, inr, ℕ, ◌+◌, ◌≤◌, Bool, true, false, cond, MatchBool, MatchOption, List, [], ◌∷◌, ◌++◌, length, option_to_list, Option, Some, None, Ok, Err, pos, int_lt, refl, sym, ap, ◌∙◌, subst, arith}
 use Rattle.av1_frame.specs.declared.frame.Frame.{Frame}
 use Rattle.av1_frame.specs.Planes.{fits}
 use Rattle.av1_settings.specs.declared.encoder.EncoderConfig.{EncoderConfig}
 use Rattle.av1_settings.specs.declared.status.EncoderStatus.{EncoderStatus}
-use Rattle.av1_settings.specs.declared.status.EncoderStatus.TheVariants.{Encoded, EnoughData, Failure, FrameSizeMismatch, NotReady, OutOfMemory as NoMemory}
+use Rattle.av1_settings.specs.declared.status.EncoderStatus.TheVariants.{EnoughData, Failure, FrameSizeMismatch, NotReady, OutOfMemory as NoMemory}
 use Rattle.pass_data.specs.declared.error.PassDataError.{PassDataError}
-use Rattle.pass_data.specs.declared.rc_data.RcData.{RcData}
-use Rattle.pass_data.specs.Given.{Given, coded, needed}
-use Rattle.ratecontrol.specs.Passes.{after_frame_emitted, after_summary, commands, frames_needed, given_out, gives_frame, gives_summary, is_controlled}
+use Rattle.pass_data.specs.Given.{Given}
+use Rattle.ratecontrol.specs.Passes.{after_frame_emitted, after_summary, given_out, gives_frame, gives_summary}
 use Rattle.ratecontrol.specs.Rate.{Rate}
 use Rattle.session_log.specs.declared.entry.LogEntry.{LogEntry}
-use Rattle.session_log.specs.Passes.{Passes, packet_sent, passes_after, passes_of}
+use Rattle.session_log.specs.Passes.{Passes, packet_sent, passes_after}
 use Rattle.session_core.specs.declared.call.Call.{Call}
 use Rattle.session_core.specs.declared.call.Call.TheVariants.{Send, Flush, Receive}
 use Rattle.session_core.specs.declared.call.FrameParameters.{FrameParameters}
@@ -24,13 +22,12 @@ use Rattle.session_core.specs.declared.transcript.Reply.{Reply}
 use Rattle.session_core.specs.declared.transcript.Reply.TheVariants.{Sent, Flushed, Packet as GivesPacket, Status}
 use Rattle.session_core.specs.Contexts.{Asks, GivesDone, GivesReceived, IsAnswered, IsCall, IsFailed, IsSend, RunsOut, Session, Waits, at_of, status_of}
 use Rattle.session_core.specs.Moments.{Accepted, Moment}
-use Rattle.session_core.specs.PassCalls.{IsGiven, IsTakeCall, rate_in, required_of, with_rate}
+use Rattle.session_core.specs.PassCalls.{IsGiven, rate_in, with_rate}
 use Rattle.session_core.specs.PassTurns.{IsPassData, awaits_data, is_done}
 use Rattle.session_core.specs.Quantisers.{passes_behind}
 use Rattle.session_core.specs.Told.{Heard}
 use Rattle.session_core.specs.Turns.{accepted_of, after_receive, after_send, has_enough, sent_reply}
-use Rattle.session_channels.specs.Acts.{Act, AreActs, Does, Ears, Empty, Hand, Holds, IsAct, IsDueWith, IsFeeding, Over, Done, Owes, Point, TakesFrame, SendsFrame, Gives, Receives, HandsOn, Flushes, Stops, all_well, data_handed, data_in, frame_taken, frames_in, hand_after, hears, metrics_in, metrics_taken, owing, packet_given, packets_in, paid, received}
-use Rattle.session_channels.specs.Ends.{FrameMessage}
+use Rattle.session_channels.specs.Acts.{Act, AreActs, Does, Ears, Point, TakesFrame, SendsFrame, Gives, Receives, HandsOn, Flushes, Stops, all_well, hears, packet_given, received}
 
 -- ---- answers
 

@@ -1,7 +1,6 @@
 -- A session that hasn't begun stands well.
-use Rattle.std.proofs.Common.{◌≡◌, ℕ, zero, suc, ◌+◌, ◌≤◌, Bool, true, false, cond, ◌&&◌, ◌||◌, All, IfSome, IsTrue, IsFalse, List, [], ◌∷◌, length, Option, Some, None, is_some, ℤ, pos, negsuc, ◌+ℤ◌, ◌-ℤ◌, ◌*ℤ◌, ◌≤ℤ◌, ◌^◌, int_lt, refl, sym, ap, ◌∙◌, subst, arith}
+use Rattle.std.proofs.Common.{◌≡◌, ℕ, zero, suc, ◌≤◌, Bool, true, false, cond, ◌||◌, IfSome, IsTrue, IsFalse, List, [], ◌∷◌, length, Option, Some, None, is_some, ℤ, pos, negsuc, ◌-ℤ◌, ◌*ℤ◌, ◌≤ℤ◌, ◌^◌, int_lt, refl, sym, ap, ◌∙◌, subst, arith}
 use Rattle.std.specs.Int.{int_min, int_max, int_shr, is_negative}
-use Rattle.std.specs.List.{list_any}
 use Rattle.std.proofs.lemmas.Int.{clamps, ints}
 use Rattle.std.proofs.lemmas.List.Elements.{All-nil}
 use Rattle.av1_settings.proofs.CheckLemmas.{bitrate_of_accepted, none_append, valid_of_accepted}
@@ -20,7 +19,7 @@ use Rattle.pass_stats.specs.Grammar.{any_negative, frame_total}
 use Rattle.pass_stats.specs.declared.metrics.RCFrameMetrics.{RCFrameMetrics}
 use Rattle.pass_stats.specs.declared.summary.RCSummary.{RCSummary}
 use Rattle.quantizers.specs.Tables.{Tables}
-use Rattle.ratecontrol.specs.Passes.{in_second, over_the_file, over_the_window, set_up, set_up_by, with_buffer, with_summary}
+use Rattle.ratecontrol.specs.Passes.{in_second, over_the_file, over_the_window, set_up, set_up_by, with_buffer}
 use Rattle.ratecontrol.specs.Rate.{Rate}
 use Rattle.ratecontrol.specs.Start.{nothing_emitted, nothing_given, start}
 use Rattle.reservoir.specs.Levels.{reservoir_delay_of}
@@ -28,9 +27,8 @@ use Rattle.session_log.specs.Passes.{Passes, passes_of, rate_at, second_begun, s
 use Rattle.session_log.specs.Readings.{start_of}
 use Rattle.session_core.specs.Contexts.{Session, fresh}
 use Rattle.session_core.specs.PassTurns.{first_of, passes_begun}
-use Rattle.session_channels.specs.Courses.{HaveBytes}
 use Rattle.session_channels.specs.Drives.{IsNew}
-use Rattle.session_channels.specs.Wells.{ArePassesWell, IsLeft, IsPaid, IsWell, last_command}
+use Rattle.session_channels.specs.Wells.{IsLeft, IsPaid, IsWell}
 
 -- ---- the counts of a summary
 
@@ -200,6 +198,7 @@ fresh-well bits levels config tables d s c valid five =
       counted = refl;
       real = refl;
       untried = All-nil _;
+      bytes = All-nil _;
       passes = record {
         first = begins.first_is;
         second = begins.second_is;
@@ -207,7 +206,7 @@ fresh-well bits levels config tables d s c valid five =
         counted = λ second. is-controlled levels config none
             (either config.rate_control.emit_data (is_some config.rate_control.summary) (sym begins.summary_is ∙ (sym begins.second_is ∙ second)));
         delay = started-delay config.enc (passes_begun config.enc tables config.rate_control) (valid_of_accepted levels config none) begins.units;
-        left = λ bytes. begins.left;
+        left = begins.left;
       };
     }
 
@@ -226,8 +225,8 @@ module _ {T O D S C : Type 0} (session : Session T O D S C) (second first : Bool
 
   opened-paid : IsPaid first opened
   opened-paid = record {
-    few = λ bytes handing. omega arith;
-    waits = λ bytes handing. ap (λ (e : Emitted). is_some e.waiting) begins.unemitted;
+    few = λ handing. omega arith;
+    waits = λ handing. ap (λ (e : Emitted). is_some e.waiting) begins.unemitted;
   }
 
   pub new-paid : IsPaid first session

@@ -1,5 +1,5 @@
 -- Rate control counts no more commands than were coded for good.
-use Rattle.std.proofs.Common.{◌≡◌, ℕ, suc, ◌+◌, ◌<◌, ◌≤◌, ◌==◌, Bool, true, false, cond, not, ◌&&◌, All, nat_lt, List, [], ◌∷◌, filter, map, length, Option, Some, None, ℤ, pos, ◌+ℤ◌, ◌≤ℤ◌, int_lt, refl, sym, ap, ◌∙◌, subst, arith}
+use Rattle.std.proofs.Common.{◌≡◌, ℕ, suc, ◌+◌, ◌≤◌, ◌==◌, Bool, true, false, cond, not, ◌&&◌, All, nat_lt, List, [], ◌∷◌, filter, map, length, Option, Some, None, ℤ, pos, ◌+ℤ◌, ◌≤ℤ◌, int_lt, refl, arith}
 use Rattle.std.specs.Int.{int_min}
 use Rattle.std.proofs.lemmas.Int.{clamps, ints}
 use Rattle.av1_settings.specs.declared.encoder.EncoderConfig.{EncoderConfig}
@@ -17,7 +17,7 @@ use Rattle.ratecontrol.specs.Passes.{commands, over_the_file, over_the_window, s
 use Rattle.ratecontrol.specs.Rate.{Rate}
 use Rattle.ratecontrol.specs.Start.{start}
 use Rattle.reservoir.specs.Moves.{LAST_COUNT}
-use Rattle.session_log.specs.Passes.{Passes, rate_at, started, with_passes}
+use Rattle.session_log.specs.Passes.{Passes, started, with_passes}
 use Rattle.session_log.specs.Readings.{measured, start_of}
 use Rattle.session_log.specs.declared.entry.LogEntry.{LogEntry}
 use Rattle.session_core.specs.Contexts.{Session}

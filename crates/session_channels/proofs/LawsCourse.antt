@@ -1,20 +1,15 @@
 -- What holds of a worker's course from an empty hand on: as many frames are sent and packets given as were taken and put, no
 -- metrics are taken in a session without a summary, and no pass data is handed on where none is asked for.
-use Rattle.std.proofs.Common.{◌≡◌, ◌⊎◌, inl, inr, ℕ, ◌+◌, ◌≤◌, ◌==◌, Bool, true, false, cond, ◌&&◌, IsTrue, List, [], ◌∷◌, ◌++◌, length, length-append, Option, Some, None, ℤ, pos, int_lt, unsigned_abs, refl, sym, ap, ◌∙◌, subst, arith, eqb-true}
+use Rattle.std.proofs.Common.{◌≡◌, ℕ, ◌+◌, ◌==◌, Bool, true, false, cond, ◌&&◌, IsTrue, List, [], ◌∷◌, ◌++◌, length, length-append, Option, Some, None, ℤ, pos, unsigned_abs, refl, sym, ap, ◌∙◌, subst, arith, eqb-true}
 use Rattle.pass_data.specs.declared.rc_data.RcData.{RcData}
 use Rattle.pass_data.specs.Given.{needed}
 use Rattle.ratecontrol.specs.Passes.{commands, frames_needed, is_controlled}
 use Rattle.session_core.specs.declared.fault.SessionFault.{SessionFault}
-use Rattle.session_core.specs.declared.packet.Packet.{Packet}
 use Rattle.session_core.specs.Contexts.{Session}
 use Rattle.session_core.specs.PassCalls.{rate_in, required_of}
 use Rattle.session_core.specs.PassTurns.{is_done}
-use Rattle.session_channels.specs.declared.fault.ChannelFault.{ChannelFault}
-use Rattle.session_channels.specs.declared.fault.ChannelFault.TheVariants.{Coder, FrameRefused, PassData, PassDataMissing, PassDataKind, PassDataEnded, PacketsClosed, OutOfMemory}
-use Rattle.session_channels.specs.Acts.{Act, AreActs, Does, Ears, Empty, Hand, Holds, IsAct, IsDueWith, IsFeeding, IsOpen, Over, Done, Owes, Point, TakesFrame, SendsFrame, Gives, Receives, HandsOn, Flushes, Stops, data_handed, data_in, frame_taken, frames_in, hand_after, metrics_in, metrics_taken, owing, packet_given, packets_in, paid}
-use Rattle.session_channels.specs.Courses.{IsCause, IsNothing, Stopped}
-use Rattle.session_channels.specs.Ends.{FrameMessage}
-use Rattle.session_channels.proofs.LawsActs.{Moved, acts-second, moved}
+use Rattle.session_channels.specs.Acts.{Act, AreActs, Does, Ears, Empty, Hand, Holds, IsDueWith, IsFeeding, Over, Done, Owes, Point, TakesFrame, SendsFrame, Gives, Receives, HandsOn, Flushes, Stops, data_handed, data_in, frame_taken, frames_in, hand_after, metrics_in, metrics_taken, owing, packet_given, packets_in}
+use Rattle.session_channels.proofs.LawsActs.{moved}
 
 -- ---- frames and packets
 

@@ -1,17 +1,16 @@
 -- How a course ends: the queues are closed, behind the fault if there is one.
-use Rattle.std.proofs.Common.{◌≡◌, ◌⊎◌, inl, inr, ℕ, ◌<◌, ◌≤◌, Bool, true, false, List, [], ◌∷◌, ◌++◌, map, length, Option, Some, None, Result, Ok, Err, IfErr, OnOk, refl, sym, ap, ◌∙◌, subst, append-nil, arith}
-use Rattle.std.specs.Option.{option_map}
+use Rattle.std.proofs.Common.{◌≡◌, ◌⊎◌, inl, inr, ◌<◌, Bool, true, List, [], ◌∷◌, ◌++◌, map, Option, Result, Ok, Err, IfErr, OnOk, sym, ap, ◌∙◌, subst, append-nil}
 use Rattle.coding_base.specs.Faults.{Rose}
-use Rattle.coding_base.proofs.FaultLemmas.{rose-after, rose-then}
+use Rattle.coding_base.proofs.FaultLemmas.{rose-after}
 use Rattle.pass_data.specs.declared.rc_data.RcData.{RcData}
 use Rattle.session_core.specs.declared.packet.Packet.{Packet}
 use Rattle.session_core.specs.Contexts.{Session}
 use Rattle.session_channels.specs.declared.counts.Counts.{Counts}
 use Rattle.session_channels.specs.declared.fault.ChannelFault.{ChannelFault}
 use Rattle.session_channels.specs.declared.fault.ChannelFault.TheVariants.{Coder, FrameRefused, PassData, PassDataMissing, PassDataKind, PassDataEnded, PacketsClosed, OutOfMemory}
-use Rattle.session_channels.specs.Acts.{Done, Ears, Empty, Point, data_in, frames_in, metrics_in, packets_in}
-use Rattle.session_channels.specs.Courses.{Drove, IsCause, IsNothing, IsPutFault, PutsAll, PutsPackets, SaidClosed, SaidNoMemory, Stopped, TakesAll, Turns, Went}
-use Rattle.session_channels.specs.Drives.{AreHandedOn, Drives, EndsBy, EndsByFault, Faulted, Finished, HasCoderRisen, IsNew, PutsAndCloses}
+use Rattle.session_channels.specs.Acts.{Done, Ears, Empty, Point, data_in}
+use Rattle.session_channels.specs.Courses.{IsPutFault, PutsAll, PutsPackets, SaidClosed, SaidNoMemory, Stopped, TakesAll, Turns, Went}
+use Rattle.session_channels.specs.Drives.{AreHandedOn, EndsBy, EndsByFault, Faulted, Finished, HasCoderRisen, IsNew, PutsAndCloses}
 use Rattle.session_channels.specs.Ends.{FrameMessage}
 use Rattle.session_channels.specs.Queues.{IsClosing, IsTurn, NoneFell, Queue, next_count}
 use Rattle.session_channels.proofs.Joins.{Widens, closed-after, closed-then, puts-join, stopped-wider, went-wider}

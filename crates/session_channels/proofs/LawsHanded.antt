@@ -1,13 +1,10 @@
 -- What a first pass hands on along a worker's acts: a message of each command, and at the end the summary.
-use Rattle.std.proofs.Common.{◌≡◌, ◌⊎◌, inl, inr, ℕ, ◌+◌, ◌<◌, ◌≤◌, ◌^◌, Bool, true, false, cond, not, ◌&&◌, All, IsTrue, MatchBool, MatchOption, List, [], ◌∷◌, ◌++◌, filter, length, length-append, map, option_to_list, append-nil, append_assoc, Option, Some, None, is_some, Result, Ok, Err, ℤ, pos, ◌≤ℤ◌, int_lt, refl, sym, ap, ◌∙◌, subst, arith}
+use Rattle.std.proofs.Common.{◌≡◌, ℕ, ◌+◌, ◌<◌, ◌≤◌, Bool, true, false, cond, not, ◌&&◌, All, IsTrue, MatchBool, MatchOption, List, [], ◌∷◌, ◌++◌, length, length-append, map, option_to_list, append-nil, append_assoc, Option, Some, None, is_some, ℤ, pos, ◌≤ℤ◌, int_lt, refl, sym, ap, ◌∙◌, subst, arith}
 use Rattle.std.proofs.lemmas.Int.{ints}
 use Rattle.std.proofs.lemmas.List.Elements.{All-append, All-cons, All-nil, filter-append}
 use Rattle.arrayvec.specs.ArrayVec.{ArrayVec}
-use Rattle.av1_frame.specs.declared.frame.Frame.{Frame}
-use Rattle.av1_frame.specs.Planes.{fits}
 use Rattle.av1_settings.specs.declared.encoder.EncoderConfig.{EncoderConfig}
 use Rattle.av1_settings.specs.declared.status.EncoderStatus.{EncoderStatus}
-use Rattle.av1_settings.specs.declared.status.EncoderStatus.TheVariants.{EnoughData, FrameSizeMismatch}
 use Rattle.pass_data.specs.Emitted.{Emitted, emitted_by, with_frame_emitted, with_waiting}
 use Rattle.pass_data.specs.Given.{Given, coded}
 use Rattle.pass_data.specs.declared.rc_data.RcData.{RcData}
@@ -22,7 +19,6 @@ use Rattle.ratecontrol.specs.Update.{frame_data}
 use Rattle.ratecontrol.proofs.KeptLaws.{kept_bitrate}
 use Rattle.session_log.specs.Passes.{Passes, passes_after, rate_at, started}
 use Rattle.session_log.specs.Readings.{measured}
-use Rattle.session_log.specs.Selection.{is_trial_due}
 use Rattle.session_log.specs.declared.entry.LogEntry.{LogEntry}
 use Rattle.session_log.proofs.Logs.{started_bitrate}
 use Rattle.session_core.specs.declared.call.Call.{Call}
@@ -32,14 +28,13 @@ use Rattle.session_core.specs.declared.packet.Packet.{Packet}
 use Rattle.session_core.specs.declared.transcript.Decision.{Decision}
 use Rattle.session_core.specs.declared.transcript.Reply.{Reply}
 use Rattle.session_core.specs.declared.transcript.Reply.TheVariants.{Sent, Flushed, Packet as GivesPacket, Status}
-use Rattle.session_core.specs.declared.transcript.Turn.{Turn}
 use Rattle.session_core.specs.Contexts.{Asks, GivesDone, GivesReceived, IsAnswered, Session}
 use Rattle.session_core.specs.Moments.{Accepted, Moment}
 use Rattle.session_core.specs.PassCalls.{IsTakeCall, rate_in, with_rate}
 use Rattle.session_core.specs.PassTurns.{IsFrameData, IsPassData, IsSummaryData, is_done}
 use Rattle.session_core.specs.Quantisers.{passes_behind}
-use Rattle.session_core.specs.Turns.{AreTrials, CodesNext, IsTrial, OnlyReplies, accepted_of, after_receive, after_send, has_enough, held_back, real_entries, sent_reply}
-use Rattle.session_channels.specs.Acts.{Act, AreActs, Does, Ears, Empty, Hand, Holds, IsAct, IsDueWith, Over, Done, Owes, Point, TakesFrame, SendsFrame, Gives, Receives, HandsOn, Flushes, Stops, all_well, data_handed, data_in, hand_after, hears, received}
+use Rattle.session_core.specs.Turns.{AreTrials, CodesNext, IsTrial, OnlyReplies, accepted_of, after_receive, after_send, held_back, real_entries}
+use Rattle.session_channels.specs.Acts.{Act, AreActs, Does, Ears, Empty, Hand, Holds, IsDueWith, Over, Done, Owes, Point, TakesFrame, SendsFrame, Gives, Receives, HandsOn, Flushes, Stops, all_well, data_handed, data_in, hand_after, hears, received}
 use Rattle.session_channels.specs.Drives.{AreHandedOn, IsOfFrame}
 use Rattle.session_channels.specs.Ends.{FrameMessage}
 use Rattle.session_channels.specs.Wells.{IsUntried, IsWell, last_command}

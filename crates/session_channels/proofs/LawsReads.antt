@@ -1,5 +1,5 @@
 -- The course of a worker to which a queue of pass data isn't given, read from that over a queue that stands in its place.
-use Rattle.std.proofs.Common.{◌≡◌, ◌⊎◌, inl, inr, ℕ, Bool, true, false, List, [], ◌∷◌, ◌++◌, length, Option, Some, None, Result, Ok, Err, refl, sym, ap, ◌∙◌, subst, append-nil}
+use Rattle.std.proofs.Common.{◌≡◌, Bool, true, false, List, [], ◌++◌, Result, Ok, Err, ap, ◌∙◌}
 use Rattle.pass_data.specs.declared.rc_data.RcData.{RcData}
 use Rattle.session_core.specs.declared.packet.Packet.{Packet}
 use Rattle.session_core.specs.Contexts.{Session}
@@ -7,7 +7,7 @@ use Rattle.session_channels.specs.declared.fault.ChannelFault.{ChannelFault}
 use Rattle.session_channels.specs.declared.fault.ChannelFault.TheVariants.{Coder, FrameRefused, PassData, PassDataMissing, PassDataKind, PassDataEnded, PacketsClosed, OutOfMemory}
 use Rattle.session_channels.specs.Acts.{Act, AreActs, Done, Ears, Empty, Point, data_in, frames_in, metrics_in, packets_in}
 use Rattle.session_channels.specs.Courses.{IsCause, Stopped, Turns, Went}
-use Rattle.session_channels.specs.Drives.{Drives, Faulted, Finished}
+use Rattle.session_channels.specs.Drives.{Drives}
 use Rattle.session_channels.specs.Ends.{FrameMessage}
 use Rattle.session_channels.proofs.LawsActs.{acts-second}
 use Rattle.session_channels.proofs.LawsCourse.{acts-free, acts-unfed, never-feeds}

@@ -1,3 +1,7 @@
+mod Feeding
+mod Flushed
+mod Given
+mod HandedOn
 mod Joins
 mod LawsActs
 mod LawsBegun
@@ -5,4 +9,9 @@ mod LawsCounted
 mod LawsCourse
 mod LawsEnds
 mod LawsHanded
+mod LawsLent
 mod LawsReads
+pub mod Making
+mod Parts
+mod Receiving
+mod Sent

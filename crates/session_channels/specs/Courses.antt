@@ -1,6 +1,6 @@
 -- A stretch of a worker's course: the acts that were done, whole or up to a fault, and what its queues had of them.
 use Rattle.arrayvec.specs.ArrayVec.{ArrayVec}
-use Rattle.std.specs.Prelude.{◌≡◌, ◌⊎◌, ℕ, ◌≤◌, ⊤, All, ℤ, pos, Bool, true, List, [], ◌∷◌, ◌++◌, map, length, Option, Some, None, Result, Ok, Err, MatchResult}
+use Rattle.std.specs.Prelude.{◌≡◌, ◌⊎◌, ℕ, ℤ, pos, Bool, true, List, [], ◌∷◌, ◌++◌, map, length, Option, Some, None, Result, Ok, Err, MatchResult}
 use Rattle.std.specs.Int.{int_min}
 use Rattle.std.specs.Option.{option_map}
 use Rattle.coding_base.specs.Faults.{Rose}
@@ -10,9 +10,7 @@ use Rattle.pass_data.specs.declared.error.PassDataError.{PassDataError}
 use Rattle.pass_data.specs.declared.given.Header.{Header}
 use Rattle.pass_data.specs.declared.rc_data.RcData.{RcData}
 use Rattle.pass_data.specs.declared.rc_data.RcData.TheVariants.{Frame as OfFrame, Summary as OfSummary}
-use Rattle.session_log.specs.declared.entry.LogEntry.{LogEntry}
 use Rattle.session_core.specs.declared.call.Call.TheVariants.{Receive}
-use Rattle.session_core.specs.declared.fault.SessionFault.{SessionFault}
 use Rattle.session_core.specs.declared.fault.SessionFault.TheVariants.{Coder as CoderFailed, PassData as DataRefused}
 use Rattle.session_core.specs.declared.packet.Packet.{Packet}
 use Rattle.session_core.specs.declared.transcript.Reply.TheVariants.{Status}
@@ -135,17 +133,13 @@ abbrev pub total_of : Option Header → ℤ
 total_of None = pos 2147483647
 total_of (Some header) = header.total
 
--- each entry has bytes, as every coder gives them
-abbrev pub HaveBytes : List LogEntry → Type 0
-HaveBytes log = All (λ entry. 1 ≤ length entry.bytes) log
-
 -- the receive that was due answers NotReady, behind that many commands
 pub record RunsDry {T O D S C : Type 0} (last : Point T O D S C) (now : Session T O D S C) (total : ℤ) : Type 0 where
   pub due : IsCoding last
   pub waits : awaits_data last.session.enc (at_of last.session) Receive ≡ true
   pub counted : int_min (pos last.session.moment.commands) (pos 2147483647) ≡ total
-  pub kept : HaveBytes last.session.moment.log → total_of last.session.passes.given.header ≡ total
-  pub behind : HaveBytes last.session.moment.log → pos last.session.moment.commands ≡ total
+  pub kept : total_of last.session.passes.given.header ≡ total
+  pub behind : pos last.session.moment.commands ≡ total
   pub same : now ≡ last.session
 
 -- what was to be put: the packet of the receive that was due

@@ -18,9 +18,9 @@ use Rattle.session_core.specs.declared.packet.Packet.{Packet}
 use Rattle.session_core.specs.Contexts.{Session, fresh}
 use Rattle.session_core.specs.PassTurns.{passes_begun}
 use Rattle.session_channels.specs.declared.fault.ChannelFault.{ChannelFault}
-use Rattle.session_channels.specs.declared.fault.ChannelFault.TheVariants.{Coder, FrameRefused, PassData, PassDataMissing, PassDataKind, PassDataEnded, PacketsClosed, OutOfMemory}
-use Rattle.session_channels.specs.Acts.{Done, Ears, Empty, Hand, Point, data_in, frames_in, packets_in}
-use Rattle.session_channels.specs.Courses.{IsNothing, SaidClosed, SaidNoMemory, Stopped, Turns, Went}
+use Rattle.session_channels.specs.declared.fault.ChannelFault.TheVariants.{Coder}
+use Rattle.session_channels.specs.Acts.{Done, Ears, Empty, data_in, frames_in, packets_in}
+use Rattle.session_channels.specs.Courses.{SaidClosed, SaidNoMemory, Stopped, Turns, Went}
 use Rattle.session_channels.specs.Queues.{NoneFell, Queue, next_count}
 
 -- a session that hasn't begun, of a valid configuration, which has a summary where `second`, and asks for pass data where `first`

@@ -11,8 +11,7 @@ use Rattle.session_log.specs.declared.entry.LogEntry.{LogEntry}
 use Rattle.session_core.specs.Contexts.{Session}
 use Rattle.session_core.specs.Moments.{plan_at}
 use Rattle.session_core.specs.PassTurns.{is_done}
-use Rattle.session_core.specs.Turns.{frame_limit, held_back, needs_more_data, real_entries}
-use Rattle.session_channels.specs.Courses.{HaveBytes}
+use Rattle.session_core.specs.Turns.{HaveBytes, frame_limit, held_back, needs_more_data, real_entries}
 
 -- the most commands that a summary counts
 abbrev pub last_command : ℕ
@@ -48,7 +47,7 @@ pub record ArePassesWell {T O D S C : Type 0} (handing : Bool) (session : Sessio
   pub controlled : handing ≡ true → IsTrue (int_lt (pos 0) session.enc.bitrate)
   pub counted : session.passes.second ≡ true → IsTrue (int_lt (pos 0) session.enc.bitrate)
   pub delay : pos 1 ≤ℤ (started session.enc session.passes).reservoir_delay
-  pub left : HaveBytes session.moment.log → IfSome session.passes.given.header (IsLeft session.passes.given session.moment.commands)
+  pub left : IfSome session.passes.given.header (IsLeft session.passes.given session.moment.commands)
 
 -- it hasn't failed, and so many commands were coded
 pub record IsWell {T O D S C : Type 0} (handing : Bool) (coded : ℤ) (session : Session T O D S C) : Type 0 where
@@ -57,17 +56,18 @@ pub record IsWell {T O D S C : Type 0} (handing : Bool) (coded : ℤ) (session :
   pub counted : coded ≡ int_min (pos session.moment.commands) (pos last_command)
   pub real : session.moment.commands ≡ length (real_entries session.moment.log)
   pub untried : All IsUntried session.moment.log
+  pub bytes : HaveBytes session.moment.log
   pub passes : ArePassesWell handing session
 
 -- no pass data waits to be handed on, but for that which a summary can't count
 pub record IsPaid {T O D S C : Type 0} (handing : Bool) (session : Session T O D S C) : Type 0 where
-  pub few : HaveBytes session.moment.log → handing ≡ true → session.moment.commands ≤ last_command
-  pub waits : HaveBytes session.moment.log → handing ≡ true → is_some session.passes.emitted.waiting ≡ (session.moment.commands == last_command)
+  pub few : handing ≡ true → session.moment.commands ≤ last_command
+  pub waits : handing ≡ true → is_some session.passes.emitted.waiting ≡ (session.moment.commands == last_command)
 
 -- the same while that of the last command may wait
 pub record IsOwed {T O D S C : Type 0} (handing : Bool) (session : Session T O D S C) : Type 0 where
-  pub few : HaveBytes session.moment.log → handing ≡ true → session.moment.commands ≤ last_command
-  pub waits : HaveBytes session.moment.log → handing ≡ true → session.moment.commands ≡ last_command → is_some session.passes.emitted.waiting ≡ true
+  pub few : handing ≡ true → session.moment.commands ≤ last_command
+  pub waits : handing ≡ true → session.moment.commands ≡ last_command → is_some session.passes.emitted.waiting ≡ true
 
 -- no further command is known, or there is none
 abbrev pub IsHeldBack : {T O D S C : Type 0} → Session T O D S C → Type 0

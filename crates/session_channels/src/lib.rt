@@ -3,12 +3,18 @@
 #![tactic(auto)]
 
 mod answers;
+mod channel;
+mod coding;
 mod counts;
+mod driving;
 mod errors;
 mod fault;
 mod frame_sender;
 mod local_queue;
+mod new_channel;
+mod no_queue;
 mod packet_receiver;
+mod putting;
 mod queue;
 mod rc_data_receiver;
 mod rc_data_sender;
@@ -17,12 +23,16 @@ mod sender;
 mod shared_queue;
 #[cfg(test)]
 mod tests;
+mod worker;
 
+pub use channel::{PassDataChannel, VideoDataChannel};
 pub use counts::Counts;
+pub use driving::drive;
 pub use errors::{PutError, RecvError, SendError, TakeError, TryRecvError, TrySendError};
 pub use fault::ChannelFault;
 pub use frame_sender::{FrameMessage, FrameSender};
 pub use local_queue::LocalQueue;
+pub use new_channel::NewChannel;
 pub use packet_receiver::{PacketMessage, PacketReceiver};
 pub use pass_data::RcData;
 pub use queue::{Put, Take};
@@ -30,3 +40,4 @@ pub use rc_data_receiver::RcDataReceiver;
 pub use rc_data_sender::RcDataSender;
 pub use received::{Receive, Received};
 pub use shared_queue::SharedQueue;
+pub use worker::Worker;
