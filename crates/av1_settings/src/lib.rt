@@ -24,8 +24,6 @@ mod rational;
 mod speed;
 mod status;
 mod t35;
-#[cfg(test)]
-mod tests;
 mod tune;
 
 pub use block_size::BlockSize;

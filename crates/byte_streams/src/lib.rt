@@ -6,8 +6,6 @@ mod read;
 mod sink;
 mod source;
 mod standard;
-#[cfg(test)]
-mod tests;
 mod write;
 
 pub use read::{ReadError, read_all};

@@ -11,8 +11,6 @@ mod exponential;
 mod logarithm;
 mod polynomial;
 mod table;
-#[cfg(test)]
-mod tests;
 pub mod wide;
 
 pub use bessel::IIRBessel2;

@@ -3,7 +3,5 @@
 
 mod numbers;
 mod script;
-#[cfg(test)]
-mod tests;
 
 pub use script::{FRAMES, RECEIVES, generated_script};

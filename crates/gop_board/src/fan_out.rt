@@ -61,6 +61,37 @@ impl<H, T, C, N: Run<T, C>> Drop for Locked<'_, H, T, C, N> {
     }
 }
 
+// What the workers of a run share: how jobs are coded, the queue of their numbers, and the board for their results.
+struct Crew<'a, N: Run<T, M::Coder>, H, T: Pixel, M: MakeSession<T>, G> {
+    rt: &'a H,
+    alloc: Global,
+    cfg: &'a Config,
+    levels: &'a LevelTables,
+    tables: &'a QTables,
+    jobs: &'a [Job<T>],
+    maker: &'a M,
+    gate: &'a G,
+    queue: &'a JobQueue,
+    results: &'a Mutex<Uncollected<T, M::Coder, N>>,
+}
+
+impl<N: Run<T, M::Coder>, H, T: Pixel, M: MakeSession<T>, G> Drop for Crew<'_, N, H, T, M, G> {
+    fn drop(self) {
+        let Crew {
+            rt: _,
+            alloc: _,
+            cfg: _,
+            levels: _,
+            tables: _,
+            jobs: _,
+            maker: _,
+            gate: _,
+            queue: _,
+            results: _,
+        } = self;
+    }
+}
+
 // Runs jobs on workers, at least one and at most as many as there are jobs, and waits for them.
 pub(crate) fn run_workers<
     N: Run<T, M::Coder> + Send + Sync,
@@ -96,45 +127,79 @@ where
     let (queue, mut pass) = JobQueue::new(alloc, jobs.len() as u64)?;
     push_all(rt, &queue, &mut pass, jobs.len() as u64);
     let passes = split_passes(alloc, &queue, &mut pass, workers.clamp(1, jobs.len()))?;
-    let line = &queue;
-    thread::map_vec(
+    let crew = Crew {
         rt,
+        alloc,
+        cfg,
+        levels,
+        tables,
+        jobs,
+        maker,
+        gate,
+        queue: &queue,
+        results,
+    };
+    run_crew(&crew, passes)
+}
+
+// A worker for each of these passes; it waits for all of them.
+fn run_crew<
+    N: Run<T, M::Coder> + Send + Sync,
+    H: Threads + Wait + Sync,
+    T: Pixel,
+    M: MakeSession<T> + Sync,
+    G: Gate + Sync,
+>(crew: &Crew<N, H, T, M, G>, passes: Vec<JobPass>) -> Result<(), OutOfMemory>
+where
+    M::Scales: Send,
+    M::Coder: Send,
+    requires passes { All (λ one. one.queue ≡ crew.now.queue.now) passes.items }
+    requires works { CanWork (session_refusal T.BITS crew.now.levels.now crew.now.cfg.now)
+        crew.now.cfg.now.enc crew.now.tables.now (M.told crew.now.maker.now) M.Coder.told
+        crew.now.jobs.now crew.now.queue.now N.jobs N.belongs }
+{
+    thread::map_vec(
+        crew.rt,
         passes,
         &|mine: JobPass|
-            requires { (mine.queue ≡ line.now)
-                × CanWork (session_refusal T.BITS levels.now cfg.now) cfg.now.enc tables.now
-                (M.told maker.now) M.Coder.told jobs.now line.now N.jobs N.belongs }
+            requires { (mine.queue ≡ crew.now.queue.now)
+                × CanWork (session_refusal T.BITS crew.now.levels.now crew.now.cfg.now)
+                crew.now.cfg.now.enc crew.now.tables.now (M.told crew.now.maker.now) M.Coder.told
+                crew.now.jobs.now crew.now.queue.now N.jobs N.belongs }
         {
-            work_under(
-                rt, alloc, cfg, levels, tables, jobs, maker, gate, line, mine, results,
-            );
+            run_worker(crew, mine);
         },
     )?;
     Ok(())
 }
 
 // One worker, whose results go to a board under a lock.
-fn work_under<N: Run<T, M::Coder>, H: Wait, T: Pixel, M: MakeSession<T>, G: Gate>(
-    rt: &H,
-    alloc: Global,
-    cfg: &Config,
-    levels: &LevelTables,
-    tables: &QTables,
-    jobs: &[Job<T>],
-    maker: &M,
-    gate: &G,
-    queue: &JobQueue,
+fn run_worker<N: Run<T, M::Coder>, H: Wait, T: Pixel, M: MakeSession<T>, G: Gate>(
+    crew: &Crew<N, H, T, M, G>,
     pass: JobPass,
-    results: &Mutex<Uncollected<T, M::Coder, N>>,
 )
-    requires pass { pass.queue ≡ queue.now }
-    requires works { CanWork (session_refusal T.BITS levels.now cfg.now) cfg.now.enc tables.now
-        (M.told maker.now) M.Coder.told jobs.now queue.now N.jobs N.belongs }
+    requires pass { pass.queue ≡ crew.now.queue.now }
+    requires works { CanWork (session_refusal T.BITS crew.now.levels.now crew.now.cfg.now)
+        crew.now.cfg.now.enc crew.now.tables.now (M.told crew.now.maker.now) M.Coder.told
+        crew.now.jobs.now crew.now.queue.now N.jobs N.belongs }
 {
     let mut pass = pass;
-    let mut board = Locked { rt, lock: results };
+    let mut board = Locked {
+        rt: crew.rt,
+        lock: crew.results,
+    };
     work::<H, T, M, G, N, Locked<H, T, M::Coder, N>>(
-        rt, alloc, cfg, levels, tables, jobs, maker, gate, queue, &mut pass, &mut board,
+        crew.rt,
+        crew.alloc,
+        crew.cfg,
+        crew.levels,
+        crew.tables,
+        crew.jobs,
+        crew.maker,
+        crew.gate,
+        crew.queue,
+        &mut pass,
+        &mut board,
     );
 }
 

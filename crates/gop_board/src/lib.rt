@@ -18,8 +18,6 @@ mod job_session;
 pub mod laws;
 mod make_session;
 mod split;
-#[cfg(test)]
-mod tests;
 mod worker;
 
 pub use board::{Board, Deposits, Run};

@@ -8,8 +8,6 @@
 
 pub mod laws;
 mod tally;
-#[cfg(test)]
-mod tests;
 mod window;
 
 pub use tally::Tally;

@@ -13,8 +13,6 @@ mod look_ahead;
 mod pieces;
 mod rc_data;
 pub mod scales;
-#[cfg(test)]
-mod tests;
 
 pub use emitted::EmittedData;
 pub use error::PassDataError;

@@ -26,8 +26,6 @@ pub mod laws;
 mod metrics;
 mod parse;
 mod summary;
-#[cfg(test)]
-mod tests;
 mod write;
 
 pub use deserialize::RCDeserialize;

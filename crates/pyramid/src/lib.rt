@@ -5,8 +5,6 @@
 
 mod command;
 mod guess;
-#[cfg(test)]
-mod guess_tests;
 mod inter_config;
 pub mod laws;
 mod named;
@@ -16,11 +14,7 @@ mod refs;
 mod row_command;
 mod rows;
 mod schedule;
-#[cfg(test)]
-mod schedule_tests;
 mod spot;
-#[cfg(test)]
-mod tests;
 
 pub use command::Command;
 pub use guess::GuessedAhead;

@@ -12,8 +12,6 @@ mod nearest;
 mod parameters;
 mod settings;
 mod tables;
-#[cfg(test)]
-mod tests;
 
 pub use bounds::{above_least, below_greatest};
 pub use flat::{flat_quantizer, log_of_value};

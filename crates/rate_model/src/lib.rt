@@ -9,8 +9,6 @@ mod frame_subtypes;
 mod model;
 mod search;
 mod subtype;
-#[cfg(test)]
-mod tests;
 pub mod wide;
 
 pub use curves::start_subtypes;

@@ -10,15 +10,11 @@ mod ahead;
 mod first_pass;
 mod guess;
 pub mod laws;
-#[cfg(test)]
-mod pass_tests;
 mod passes;
 mod second_pass;
 mod select;
 mod state;
 mod target;
-#[cfg(test)]
-mod tests;
 mod update;
 
 pub use guess::{Guess, SubtypeGuess};

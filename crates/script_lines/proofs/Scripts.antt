@@ -1,35 +1,13 @@
--- What the first of the lines that are left makes of a script, and what stays so from line to line.
-use Rattle.std.proofs.Common.{◌≡◌, ℕ, ◌+◌, ◌==◌, Bool, true, false, cond, List, [], ◌∷◌, length, Option, Some, None, option_and_then, Result, Ok, Err, refl, sym, subst, arith}
+-- What stays so of a script from line to line.
+use Rattle.std.proofs.Common.{◌≡◌, ℕ, ◌+◌, Bool, true, false, cond, List, [], ◌∷◌, Option, Some, None, option_and_then, Result, Ok, Err, refl, subst}
 use Rattle.std.specs.Option.{option_map_or}
-use Rattle.std.proofs.lemmas.Bool.Decides.{nat_tests}
 use Rattle.script_lines.specs.declared.dialect.Dialect.{Dialect}
 use Rattle.script_lines.specs.declared.line.Line.{Line}
 use Rattle.script_lines.specs.declared.script.Draft.{Draft}
 use Rattle.script_lines.specs.declared.script.Script.{Script}
 use Rattle.script_lines.specs.Dialects.{has_line}
 use Rattle.script_lines.specs.Grammar.{empty_draft, lacks_flush, script_after, script_of, with_line, with_text}
-use Rattle.script_lines.specs.Lines.{key_of, line_in, line_of, lines_of}
-
-pub next_line : (draft next : Draft) (n : ℕ) (text first rest : List ℕ) (whole : Result Script ℕ) (line : Line) →
-    lines_of text ≡ first ∷ lines_of rest → script_after draft (n + 1) (lines_of text) ≡ whole → line_in draft.dialect first ≡ Some line →
-    with_line draft (key_of first) line ≡ Some next → script_after next (n + 1 + 1) (lines_of rest) ≡ whole
-next_line draft next n text first rest whole line e h some follows = rw (e, some, follows) at h
-
-pub bad_line : (draft : Draft) (n : ℕ) (text first rest : List ℕ) (whole : Result Script ℕ) →
-    lines_of text ≡ first ∷ lines_of rest → script_after draft (n + 1) (lines_of text) ≡ whole → line_in draft.dialect first ≡ None →
-    whole ≡ Err (n + 1)
-bad_line draft n text first rest whole e h none = sym (rw (e, none) at h)
-
-pub misplaced_line : (draft : Draft) (n : ℕ) (text first rest : List ℕ) (whole : Result Script ℕ) (line : Line) →
-    lines_of text ≡ first ∷ lines_of rest → script_after draft (n + 1) (lines_of text) ≡ whole → line_in draft.dialect first ≡ Some line →
-    with_line draft (key_of first) line ≡ None → whole ≡ Err (n + 1)
-misplaced_line draft n text first rest whole line e h some none = sym (rw (e, some, none) at h)
-
--- no line is left
-pub no_line : (draft : Draft) (n : ℕ) (rest : List ℕ) (whole : Result Script ℕ) → (length rest == 0) ≡ true →
-    script_after draft (n + 1) (lines_of rest) ≡ whole → whole ≡ cond (lacks_flush draft) (Err (n + 1)) (Ok draft.script)
-no_line draft n [] whole none h = sym h
-no_line draft n (byte ∷ rest) whole none h = absurd (grind (arith, nat_tests))
+use Rattle.script_lines.specs.Lines.{key_of, line_of, lines_of}
 
 -- ---- what each line keeps, and what it comes to at the end
 

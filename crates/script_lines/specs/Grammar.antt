@@ -101,10 +101,14 @@ with_line draft word (Gives bytes) =
 abbrev pub with_text : Draft → List ℕ → Option Draft
 with_text draft text = option_and_then (with_line draft (key_of text)) (line_in draft.dialect text)
 
+-- the script of a draft behind whose lines this number stands; else the number, where the flush is missing
+abbrev pub script_at_end : Draft → ℕ → Result Script ℕ
+script_at_end draft number = if lacks_flush draft then Err number else Ok draft.script
+
 -- what the lines from this number on make of a script; else the number of the first that is no line, or can't stand there, or
 -- that of the line behind them, where the flush is missing
 abbrev pub script_after : Draft → ℕ → List (List ℕ) → Result Script ℕ
-script_after draft number [] = if lacks_flush draft then Err number else Ok draft.script
+script_after draft number [] = script_at_end draft number
 script_after draft number (text ∷ lines) =
     option_map_or (λ next. script_after next (number + 1) lines) (with_text draft text) (Err number)
 

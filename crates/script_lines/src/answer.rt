@@ -5,7 +5,7 @@ use crate::number::{number, signed_up_to};
 use crate::setting::is;
 
 /// What the program's detector, its mean scales or its coder is to answer.
-#[derive(Clone, Copy, Debug, PartialEq, Eq)]
+#[derive(Clone, Copy)]
 pub enum Answer {
     /// The detector finds a scene cut at this frame.
     Cut(u64),
@@ -28,7 +28,7 @@ pub enum Answer {
 }
 
 /// What a report has beside the lines that each has.
-#[derive(Clone, Copy, Debug, PartialEq, Eq)]
+#[derive(Clone, Copy)]
 pub enum Print {
     /// The bytes of each packet.
     Bytes,

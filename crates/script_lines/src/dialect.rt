@@ -6,7 +6,7 @@ use crate::setting::Setting;
 
 /// Which lines a script may have, by what is done with it. Comments, empty lines, settings, answers and prints stand in each, but
 /// for the one setting named.
-#[derive(Clone, Copy, Debug, PartialEq, Eq)]
+#[derive(Clone, Copy)]
 pub enum Dialect {
     /// The calls of a session that is given no pass data.
     Run,

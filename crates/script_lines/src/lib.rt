@@ -12,8 +12,6 @@ mod line;
 mod number;
 mod script;
 mod setting;
-#[cfg(test)]
-mod tests;
 
 pub use answer::{Answer, Print};
 pub use dialect::Dialect;

@@ -13,7 +13,7 @@ use coding_base::{Bytes, OutOfMemory, Sequence};
 use std::alloc::Global;
 
 /// A call of any session, as a script asks for it.
-#[derive(Clone, Copy, Debug, PartialEq, Eq)]
+#[derive(Clone, Copy)]
 pub enum Action {
     /// Send the plain picture.
     Send,
@@ -38,7 +38,7 @@ pub enum Action {
 const MOST_SIDE: u64 = 64;
 
 /// A call, as a script asks for it.
-#[derive(Debug, Drop, PartialEq, Eq)]
+#[derive(Drop)]
 pub enum ScriptCall {
     /// One of any session.
     Act(Action),
@@ -50,7 +50,7 @@ pub enum ScriptCall {
 pub type ScriptCallList = Sequence<ScriptCall>;
 
 /// What a line of a script asks for.
-#[derive(Debug, Drop)]
+#[derive(Drop)]
 pub enum Line {
     /// Nothing: the line is empty, or a comment.
     Blank,

@@ -1,9 +1,9 @@
-ghost use Rattle.std.specs.Prelude.{◌≡◌, ◌≢◌, ◌↔◌, ◌<◌, ◌∷◌, ◌&&◌, not, length, ℤ, [], ◌+◌, Ok, Err, bytes_eq, nat_le, None, Some, IfOk, MatchResult, if◌then◌else◌};
+ghost use Rattle.std.specs.Prelude.{◌≡◌, ◌≢◌, ◌↔◌, ◌<◌, ◌≤◌, ◌∷◌, ◌&&◌, not, length, ℤ, [], ◌+◌, Ok, Err, bytes_eq, nat_le, None, Some, IfOk, MatchResult, if◌then◌else◌};
 ghost use Rattle.std.specs.List.{list_any};
 ghost use Rattle.pass_stats.specs.declared.error.Why.{Why};
 ghost use Rattle.pass_stats.specs.declared.error.RateControlError.TheVariants.{CorruptedSummary, InvalidVersion};
 ghost use Rattle.av1_settings.specs.declared.config.Config.{Config};
-ghost use Rattle.script_lines.specs.Grammar.{empty_draft, is_flushed, lacks_flush, may_call, may_set, with_line, GivesNothing, IsOfGops, script_of, summary_refusal, IsConfig, IsScriptError};
+ghost use Rattle.script_lines.specs.Grammar.{empty_draft, is_flushed, lacks_flush, may_call, may_set, script_after, script_at_end, with_line, with_text, GivesNothing, IsOfGops, script_of, summary_refusal, IsConfig, IsScriptError};
 ghost use Rattle.script_lines.specs.SettingLines.{encoder_of, preset_of};
 ghost use Rattle.script_lines.specs.declared.line.Line.TheVariants.{Set, Answers, Prints, Summary, Calls, Gives};
 ghost use Rattle.script_lines.specs.declared.dialect.Dialect.TheVariants.{Gops, SecondPass};
@@ -139,6 +139,50 @@ impl Draft {
             },
             words: Sequence::new(alloc),
         }
+    }
+
+    // Adds the lines of a text, and says how many they are.
+    fn add_lines(&mut self, alloc: Global, text: &[u8]) -> Result<u64, ScriptError>
+        ensures lines { let made = script_after self.old 1 (lines_of text.now) in
+            MatchResult result (λ count. made ≡ script_at_end self.new (count + 1))
+            (λ e. IsScriptError made e) }
+        ensures few { IfOk result (λ count. count ≤ length text.now) }
+    {
+        let mut rest = text;
+        let mut number = 0;
+        while !rest.is_empty() {
+            let (line, more) = first_line(rest);
+            number += 1;
+            match self.add_text(alloc, line) {
+                Ok(true) => {}
+                Ok(false) => return Err(ScriptError::BadLine(number)),
+                Err(OutOfMemory) => return Err(ScriptError::OutOfMemory),
+            }
+            rest = more;
+        }
+        Ok(number)
+    }
+
+    // Adds the line of a text, and says whether it is a line that may stand here.
+    fn add_text(&mut self, alloc: Global, text: &[u8]) -> Result<bool, OutOfMemory>
+        ensures { IfOk result (λ good.
+            with_text self.old text.now ≡ (if good then Some self.new else None)) }
+    {
+        match read_line(alloc, self.dialect, text)? {
+            Some(line) => self.add(alloc, key(text), line),
+            None => Ok(false),
+        }
+    }
+
+    // The script, where no flush is missing; else the number of the line behind the last one, which is given, is bad.
+    fn into_script(self, end: u64) -> Result<Script, ScriptError>
+        ensures { MatchResult result (λ script. script_at_end self end ≡ Ok script)
+            (λ e. IsScriptError (script_at_end self end) e) }
+    {
+        if self.lacks_flush() {
+            return Err(ScriptError::BadLine(end));
+        }
+        Ok(self.script)
     }
 
     // Adds what a line asks for, and says whether the line may stand here.
@@ -301,29 +345,10 @@ pub fn parse(alloc: Global, dialect: Dialect, text: &[u8]) -> Result<Script, Scr
     ensures of_gops { dialect ≡ Gops → IfOk result (λ script. IsOfGops script) }
 {
     let mut draft = Draft::new(alloc, dialect);
-    let mut rest = text;
-    let mut number = 0;
-    while !rest.is_empty() {
-        let (first, more) = first_line(rest);
-        number += 1;
-        let Ok(read) = read_line(alloc, draft.dialect, first) else {
-            return Err(ScriptError::OutOfMemory);
-        };
-        let Some(line) = read else {
-            return Err(ScriptError::BadLine(number));
-        };
-        let Ok(added) = draft.add(alloc, key(first), line) else {
-            return Err(ScriptError::OutOfMemory);
-        };
-        if !added {
-            return Err(ScriptError::BadLine(number));
-        }
-        rest = more;
+    match draft.add_lines(alloc, text) {
+        Ok(count) => draft.into_script(count + 1),
+        Err(error) => Err(error),
     }
-    if draft.lacks_flush() {
-        return Err(ScriptError::BadLine(number + 1));
-    }
-    Ok(draft.script)
 }
 
 // The first line of a text that isn't empty, and what stands behind it.

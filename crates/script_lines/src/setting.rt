@@ -8,7 +8,7 @@ use av1_frame::ChromaSampling;
 use av1_settings::{EncoderConfig, Rational};
 
 /// A setting, as a line of a script gives it.
-#[derive(Clone, Copy, Debug, PartialEq, Eq)]
+#[derive(Clone, Copy)]
 pub enum Setting {
     /// The speed preset, whose speed settings the other lines change.
     Preset(u8),

@@ -8,8 +8,6 @@ mod levels;
 mod numbers;
 mod scales;
 mod tables;
-#[cfg(test)]
-mod tests;
 
 pub use coder::{Given, ScriptedCoder};
 pub use detector::{Question, ScriptedDetector};

@@ -1,5 +1,7 @@
-//! Channels between a session and the threads around it: what every queue means, the queue in memory, and the ends that send
-//! frames and pass data and receive packets and pass data, over any queue.
+//! Channels between a session and the threads around it: what every queue means, the queue in memory and the one
+//! that threads share, the ends that send frames and pass data and receive packets and pass data over any queue,
+//! the loop of a worker between queues (`drive`), and whole channels with their `Worker`, as the constructors on
+//! `Config` make them.
 #![tactic(auto)]
 
 mod answers;
@@ -21,8 +23,6 @@ mod rc_data_sender;
 mod received;
 mod sender;
 mod shared_queue;
-#[cfg(test)]
-mod tests;
 mod worker;
 
 pub use channel::{PassDataChannel, VideoDataChannel};

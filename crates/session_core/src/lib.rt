@@ -1,4 +1,6 @@
-//! Sessions: frames are sent, and packets are received, in the order that the plan gives.
+//! Sessions: frames are sent, and packets are received, in the order that the plan gives, in one pass or in two. A
+//! list of calls is carried out by `run_session` and `run_pass_session`; a `Context`, over a `ContextInner`, is
+//! called one call at a time. Of the lemmas in `proofs/`, crates above may cite those of `SessionLaws`; none does.
 #![tactic(auto)]
 
 mod call;
@@ -22,8 +24,6 @@ mod receive;
 mod session;
 mod setup;
 mod state;
-#[cfg(test)]
-mod tests;
 mod transcript;
 mod waiting;
 

@@ -5,8 +5,6 @@
 mod entry;
 mod passes;
 mod rate;
-#[cfg(test)]
-mod tests;
 
 pub use entry::{LogEntry, LogList};
 pub use rate::SessionRate;

@@ -1,6 +1,8 @@
-ghost use Rattle.std.specs.Prelude.{◌≡◌, ◌+◌, ◌≤◌, ℕ, Ok, None};
+ghost use Rattle.std.specs.Prelude.{◌≡◌, ◌+◌, ◌≤◌, ℕ, Ok, None, false};
 ghost use Rattle.byte_streams.specs.Streams.{TakesAtMost};
-ghost use Rattle.script_lines.specs.Grammar.{IsOfGops};
+ghost use Rattle.av1_settings.specs.Checks.{asks_passes, session_refusal, IsValid};
+ghost use Rattle.script_lines.specs.Grammar.{IsConfig, IsOfGops};
+ghost use Rattle.scripted.specs.NoLevels.{no_levels};
 ghost use Rattle.session_core.specs.Told.{Heard};
 ghost use Rattle.session_script.specs.Causes.{script_for};
 ghost use Rattle.session_script.specs.declared.run.TheConstants.{MOST_BYTES};
@@ -14,6 +16,7 @@ use crate::run::{CORRUPTED, MOST_BYTES, tell};
 use crate::script_maker::ScriptMaker;
 use crate::words::workers_asked;
 use av1_frame::Pixel;
+use av1_settings::{Config, LevelTables};
 use byte_streams::{ReadError, Sink, Source, read_all};
 use gop_board::{GopError, OpenGate, encode_gops};
 use script_lines::{Dialect, Script, ScriptError, parse};
@@ -123,6 +126,27 @@ fn encode_script<H: Threads + Wait + Sync>(
     if let Err(refusal) = config.validate_for_session(&levels, <u8 as Pixel>::BITS) {
         return Outcome::Refused(refusal.number());
     }
+    encode_frames(rt, alloc, workers, script, &config, &levels)
+}
+
+// Codes the frames of a script by its configuration, which is valid for a session in one pass.
+fn encode_frames<H: Threads + Wait + Sync>(
+    rt: &H,
+    alloc: Global,
+    workers: u64,
+    script: &Script,
+    config: &Config,
+    levels: &LevelTables,
+) -> Outcome
+    requires gops { IsOfGops script.now }
+    requires made { IsConfig script.now config.now }
+    requires levels { levels.now ≡ no_levels }
+    requires valid { session_refusal 8 levels.now config.now ≡ None }
+    requires sizes { IsValid config.now.enc }
+    requires one_pass { asks_passes config.now ≡ false }
+    ensures outcome { (heard : Heard ℕ) →
+        IsScriptOutcome heard (Gops workers) (Ok script.now) result }
+{
     let Ok(frames) = sent_frames(alloc, &config.enc, script.calls.as_slice()) else {
         return Outcome::OutOfMemory;
     };
@@ -134,8 +158,8 @@ fn encode_script<H: Threads + Wait + Sync>(
     match encode_gops(
         rt,
         alloc,
-        &config,
-        &levels,
+        config,
+        levels,
         &tables,
         frames,
         &mut detector,
@@ -146,7 +170,7 @@ fn encode_script<H: Threads + Wait + Sync>(
         Ok(packets) => Outcome::Done(Account::Packets(packets)),
         Err(GopError::CoderFault { job, command, .. }) => Outcome::JobFault { job, command },
         Err(GopError::OutOfMemory) => Outcome::OutOfMemory,
-        // The configuration was found valid above.
+        // The configuration is valid.
         Err(GopError::Invalid(_)) => unreachable!(),
     }
 }

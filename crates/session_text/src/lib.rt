@@ -6,8 +6,6 @@ mod packet_lines;
 mod pass_report;
 mod report;
 mod summary;
-#[cfg(test)]
-mod tests;
 
 pub use command_lines::write_command;
 pub use packet_lines::packets_text;

@@ -3,8 +3,6 @@
 
 mod machine;
 mod replays;
-#[cfg(test)]
-mod tests;
 
 pub use machine::{Display, EmptySlot};
 pub use replays::{ReplayError, replay};

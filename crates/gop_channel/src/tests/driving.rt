@@ -2,40 +2,37 @@
 ghost use Rattle.std.specs.Prelude.{◌≡◌, None};
 ghost use Rattle.session_channels.specs.LocalQueues.{local_of};
 
-use super::making::{ScriptedMaker, put_frames, put_small_frame, settings};
+use super::making::{Frames, SOUND, ScriptedMaker, frames_of, settings};
 use crate::{GopEnd, drive_gops};
-use av1_settings::{Config, EncoderStatus};
 use coding_base::OutOfMemory;
 use scripted::{ScriptedCoder, ScriptedDetector, no_levels, scripted_tables};
-use session_channels::{ChannelFault, FrameMessage, LocalQueue, PacketMessage, TakeError};
+use session_channels::{LocalQueue, PacketMessage, TakeError};
 use std::alloc::Global;
 use std::sync::Wait;
 use std::test::Fail;
 use std::thread::Threads;
 
-const SOUND: ScriptedMaker = ScriptedMaker { from: 3, fails: 0 };
-
-// The numbers of packets, and how many bytes they have.
-const SIZES: [(u64, usize); 12] = [
-    (0, 102),
-    (1, 42),
-    (2, 5),
-    (3, 22),
-    (4, 102),
-    (5, 42),
-    (6, 5),
-    (7, 22),
-    (8, 102),
-    (9, 42),
-    (10, 5),
-    (11, 22),
-];
-
-type Frames = LocalQueue<FrameMessage<u8, ()>>;
-
 type Packets = LocalQueue<PacketMessage<u8, ()>>;
 
-// A queue of packets, closed or not.
+// What a run is given: the widths of the frames, whether their queue is closed behind them, whether they are one still picture,
+// whether the queue of packets is closed before, and the maker.
+#[derive(Clone, Copy)]
+struct Given<'a> {
+    widths: &'a [usize],
+    is_whole: bool,
+    is_still: bool,
+    is_severed: bool,
+    maker: ScriptedMaker,
+}
+
+const TWELVE: Given<'static> = Given {
+    widths: &[64; 12],
+    is_whole: true,
+    is_still: false,
+    is_severed: false,
+    maker: SOUND,
+};
+
 fn new_packets(alloc: Global, is_closed: bool) -> Packets
     ensures { (local_of result).queue.capacity ≡ None }
 {
@@ -47,162 +44,176 @@ fn new_packets(alloc: Global, is_closed: bool) -> Packets
     packets
 }
 
-// How a run over these queues ended; None where the settings are refused.
-fn drive<R: Threads + Wait + Sync>(
+// How a run over a queue of frames ended, and its packets.
+fn driven<R: Threads + Wait + Sync>(
     rt: &R,
     alloc: Global,
-    config: &Config,
-    maker: &ScriptedMaker,
+    given: &Given,
     frames: &mut Frames,
-    is_closed: bool,
-) -> Result<Option<(Result<(), GopEnd<ScriptedCoder>>, Packets)>, OutOfMemory> {
-    let levels = no_levels();
+) -> Result<(Result<(), GopEnd<ScriptedCoder>>, Packets), Fail> {
+    let (levels, tables) = (no_levels(), scripted_tables());
+    let mut config = settings();
+    config.enc.still_picture = given.is_still;
     if config.validate_for_session(&levels, 8).is_err() {
-        return Ok(None);
+        return Err(Fail::from("invalid settings"));
     }
-    let mut packets = new_packets(alloc, is_closed);
+    let mut packets = new_packets(alloc, given.is_severed);
+    let mut detector = ScriptedDetector::new(alloc, &[4, 8])?;
     let ended = drive_gops(
         rt,
         alloc,
-        config,
+        &config,
         &levels,
-        &scripted_tables(),
-        &mut ScriptedDetector::new(alloc, &[4, 8])?,
-        maker,
+        &tables,
+        &mut detector,
+        &given.maker,
         frames,
         &mut packets,
         2,
     );
-    Ok(Some((ended, packets)))
+    Ok((ended, packets))
 }
 
-// The fault of a run that keeps no coder.
-fn fault_alone(ended: Result<(), GopEnd<ScriptedCoder>>) -> Option<ChannelFault> {
+// The fault, and how many calls its coder answered, if there is one.
+fn end_told(
+    alloc: Global,
+    ended: Result<(), GopEnd<ScriptedCoder>>,
+) -> Result<String, OutOfMemory> {
     let Err(end) = ended else {
-        return None;
+        return Ok(format!(in alloc; "ok")?);
     };
     let GopEnd { fault, coder } = end;
-    if coder.is_some() {
-        return None;
+    let mut text = format!(in alloc; "{fault}")?;
+    if let Some(coder) = coder {
+        write!(text, " (it answered {})", coder.given().len())?;
     }
-    Some(fault)
+    Ok(text)
 }
 
-// The numbers of the packets put and how many bytes they have, and what ends them: a fault, or the end of the queue.
-fn received(
-    alloc: Global,
-    packets: &mut Packets,
-) -> Result<(Vec<(u64, usize)>, Option<ChannelFault>), OutOfMemory> {
-    let mut sizes = Vec::new(alloc);
+// The numbers of packets and how many bytes they have, the fault behind them, and what the next take answers.
+fn packets_told(alloc: Global, packets: Packets) -> Result<String, OutOfMemory> {
+    let mut packets = packets;
+    let mut text = format!(in alloc; "packets")?;
     for _ in 0..20 {
-        match packets.take() {
-            Ok(Ok(packet)) => sizes.push((packet.input_frameno, packet.bytes.len()))?,
-            Ok(Err(fault)) => return Ok((sizes, Some(fault))),
-            Err(_) => return Ok((sizes, None)),
+        match packets.try_take() {
+            Ok(Ok(packet)) => write!(text, " {}:{}", packet.input_frameno, packet.bytes.len())?,
+            Ok(Err(fault)) => write!(text, ", {fault}")?,
+            Err(TakeError::Closed) => {
+                text.push_str(", closed")?;
+                break;
+            }
+            Err(TakeError::Empty) => {
+                text.push_str(", open")?;
+                break;
+            }
         }
     }
-    Ok((sizes, None))
+    Ok(text)
 }
 
-#[test]
-fn packets_of_all_jobs_in_order(rt: HostRuntime) -> Result<(), Fail> {
-    let alloc = rt.alloc();
-    let mut frames = LocalQueue::new(alloc, None);
-    put_frames(alloc, &mut frames, 12)?;
-    frames.close();
-    let Some((ended, mut packets)) = drive(&rt, alloc, &settings(), &SOUND, &mut frames, false)?
-    else {
-        return Err(Fail::from("refused"));
-    };
-    assert!(rt; ended.is_ok());
-    let (sizes, fault) = received(alloc, &mut packets)?;
-    assert_eq!(rt; sizes.as_slice(), SIZES.as_slice());
-    assert_eq!(rt; fault, None);
-    assert_eq!(rt; packets.try_take().err(), Some(TakeError::Closed));
-    Ok(())
+// How many frames are left, and what the take behind them answers.
+fn frames_told(alloc: Global, frames: Frames) -> Result<String, OutOfMemory> {
+    let mut frames = frames;
+    let mut text = format!(in alloc; "{} left", frames.len())?;
+    for _ in 0..20 {
+        match frames.try_take() {
+            Ok(_) => text.push_str(", one")?,
+            Err(TakeError::Closed) => {
+                text.push_str(", closed")?;
+                break;
+            }
+            Err(TakeError::Empty) => {
+                text.push_str(", open")?;
+                break;
+            }
+        }
+    }
+    Ok(text)
 }
 
-#[test]
-fn a_second_frame_of_another_size(rt: HostRuntime) -> Result<(), Fail> {
-    let alloc = rt.alloc();
-    let mut frames = LocalQueue::new(alloc, None);
-    put_frames(alloc, &mut frames, 1)?;
-    put_small_frame(alloc, &mut frames)?;
-    put_frames(alloc, &mut frames, 1)?;
-    let Some((ended, mut packets)) = drive(&rt, alloc, &settings(), &SOUND, &mut frames, false)?
-    else {
-        return Err(Fail::from("refused"));
-    };
-    let refused = ChannelFault::FrameRefused(EncoderStatus::FrameSizeMismatch);
-    assert_eq!(rt; fault_alone(ended), Some(refused));
-    let (sizes, fault) = received(alloc, &mut packets)?;
-    assert_eq!(rt; sizes.as_slice(), &SIZES[..1]);
-    assert_eq!(rt; fault, Some(refused));
-    assert_eq!(rt; packets.try_take().err(), Some(TakeError::Closed));
-    // The frame behind it wasn't taken, and the queue of frames is open.
-    assert_eq!(rt; frames.len(), 1);
-    assert!(rt; frames.try_take().is_ok());
-    assert_eq!(rt; frames.try_take().err(), Some(TakeError::Empty));
-    Ok(())
+fn told<R: Threads + Wait + Sync>(
+    rt: &R,
+    alloc: Global,
+    given: &Given,
+) -> Result<[String; 3], Fail> {
+    let mut frames = frames_of(alloc, given.widths)?;
+    if given.is_whole {
+        frames.close();
+    }
+    let (ended, packets) = driven(rt, alloc, given, &mut frames)?;
+    Ok([
+        end_told(alloc, ended)?,
+        packets_told(alloc, packets)?,
+        frames_told(alloc, frames)?,
+    ])
 }
 
-#[test]
-fn a_second_frame_of_a_still_picture(rt: HostRuntime) -> Result<(), Fail> {
-    let alloc = rt.alloc();
-    let mut config = settings();
-    config.enc.still_picture = true;
-    let mut frames = LocalQueue::new(alloc, None);
-    put_frames(alloc, &mut frames, 2)?;
-    let Some((ended, mut packets)) = drive(&rt, alloc, &config, &SOUND, &mut frames, false)? else {
-        return Err(Fail::from("refused"));
-    };
-    let refused = ChannelFault::FrameRefused(EncoderStatus::EnoughData);
-    assert_eq!(rt; fault_alone(ended), Some(refused));
-    let (sizes, fault) = received(alloc, &mut packets)?;
-    assert_eq!(rt; sizes.as_slice(), &SIZES[..1]);
-    assert_eq!(rt; fault, Some(refused));
-    Ok(())
-}
-
-#[test]
-fn a_coder_that_fails_in_the_second_job(rt: HostRuntime) -> Result<(), Fail> {
-    let alloc = rt.alloc();
-    let mut frames = LocalQueue::new(alloc, None);
-    put_frames(alloc, &mut frames, 12)?;
-    frames.close();
-    let maker = ScriptedMaker { from: 1, fails: 2 };
-    let Some((ended, mut packets)) = drive(&rt, alloc, &settings(), &maker, &mut frames, false)?
-    else {
-        return Err(Fail::from("refused"));
-    };
-    let Err(
-        GopEnd {
-            fault,
-            coder: Some(coder),
+// Each run, and what it answers, what is put into the queue of packets, and what is left in that of frames.
+const ROWS: [(Given<'static>, [&str; 3]); 5] = [
+    (
+        TWELVE,
+        [
+            "ok",
+            "packets 0:102 1:42 2:5 3:22 4:102 5:42 6:5 7:22 8:102 9:42 10:5 11:22, closed",
+            "0 left, closed",
+        ],
+    ),
+    (
+        Given {
+            widths: &[64, 32, 64],
+            is_whole: false,
+            ..TWELVE
         },
-    ) = ended
-    else {
-        return Err(Fail::from("no coder"));
-    };
-    assert_eq!(rt; fault, ChannelFault::Coder { command: 2 });
-    assert_eq!(rt; coder.given().len(), 2);
-    let (sizes, fault) = received(alloc, &mut packets)?;
-    assert_eq!(rt; sizes.as_slice(), &SIZES[..4]);
-    assert_eq!(rt; fault, Some(ChannelFault::Coder { command: 2 }));
-    Ok(())
-}
+        [
+            "a frame was refused: frame size mismatch",
+            "packets 0:102, a frame was refused: frame size mismatch, closed",
+            "1 left, one, open",
+        ],
+    ),
+    (
+        Given {
+            widths: &[64; 2],
+            is_whole: false,
+            is_still: true,
+            ..TWELVE
+        },
+        [
+            "a frame was refused: enough data",
+            "packets 0:102, a frame was refused: enough data, closed",
+            "0 left, open",
+        ],
+    ),
+    (
+        Given {
+            maker: ScriptedMaker { from: 1, fails: 2 },
+            ..TWELVE
+        },
+        [
+            "the coder failed at command 2 (it answered 2)",
+            "packets 0:102 1:42 2:5 3:22, the coder failed at command 2, closed",
+            "0 left, closed",
+        ],
+    ),
+    (
+        Given {
+            is_severed: true,
+            ..TWELVE
+        },
+        [
+            "the queue of packets or of pass data was closed",
+            "packets, closed",
+            "0 left, closed",
+        ],
+    ),
+];
 
 #[test]
-fn a_queue_of_packets_that_is_closed(rt: HostRuntime) -> Result<(), Fail> {
-    let alloc = rt.alloc();
-    let mut frames = LocalQueue::new(alloc, None);
-    put_frames(alloc, &mut frames, 12)?;
-    frames.close();
-    let Some((ended, mut packets)) = drive(&rt, alloc, &settings(), &SOUND, &mut frames, true)?
-    else {
-        return Err(Fail::from("refused"));
-    };
-    assert_eq!(rt; fault_alone(ended), Some(ChannelFault::PacketsClosed));
-    assert_eq!(rt; packets.try_take().err(), Some(TakeError::Closed));
+fn runs_end_as_their_rows_say(rt: HostRuntime) -> Result<(), Fail> {
+    for (given, wanted) in &ROWS {
+        let told = told(&rt, rt.alloc(), given)?;
+        for (part, wanted) in told.iter().zip(wanted) {
+            assert_eq!(rt; part.as_str(), *wanted);
+        }
+    }
     Ok(())
 }

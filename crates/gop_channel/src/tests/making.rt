@@ -12,11 +12,14 @@ use std::alloc::Global;
 use std::sync::Arc;
 
 /// From job number `from` on its coders fail their call number `fails`.
-#[derive(Clone, Copy, Debug)]
+#[derive(Clone, Copy)]
 pub struct ScriptedMaker {
     pub from: u64,
     pub fails: u64,
 }
+
+/// No job of these tests fails.
+pub const SOUND: ScriptedMaker = ScriptedMaker { from: 3, fails: 0 };
 
 impl MakeSession<u8> for ScriptedMaker {
     ghost told = { λ maker job first. record {
@@ -43,6 +46,7 @@ impl MakeSession<u8> for ScriptedMaker {
     }
 }
 
+/// Settings of 64 x 80 with a lookahead of one frame.
 pub fn settings() -> Config {
     let mut enc = EncoderConfig::default();
     enc.width = 64;
@@ -51,25 +55,16 @@ pub fn settings() -> Config {
     Config::new().with_encoder_config(enc)
 }
 
-/// So many frames of the settings' size.
-pub fn put_frames(
-    alloc: Global,
-    queue: &mut LocalQueue<FrameMessage<u8, ()>>,
-    count: usize,
-) -> Result<(), OutOfMemory> {
-    let frame: Arc<Frame<u8>> = Arc::new(alloc, Frame::new(alloc, 64, 80, ChromaSampling::Cs420)?)?;
-    for _ in 0..count {
-        let _ = queue.put((Arc::try_clone(&frame)?, None));
-    }
-    Ok(())
-}
+pub type Frames = LocalQueue<FrameMessage<u8, ()>>;
 
-/// A frame of another size.
-pub fn put_small_frame(
-    alloc: Global,
-    queue: &mut LocalQueue<FrameMessage<u8, ()>>,
-) -> Result<(), OutOfMemory> {
-    let frame = Arc::new(alloc, Frame::new(alloc, 32, 80, ChromaSampling::Cs420)?)?;
-    let _ = queue.put((frame, None));
-    Ok(())
+/// A queue of frames of 80 rows and these widths, at most 64.
+pub fn frames_of(alloc: Global, widths: &[usize]) -> Result<Frames, OutOfMemory> {
+    let mut frames = LocalQueue::new(alloc, None);
+    for width in widths {
+        let frame = Frame::new(alloc, (*width).min(64), 80, ChromaSampling::Cs420)?;
+        if frames.put((Arc::new(alloc, frame)?, None)).is_err() {
+            return Err(OutOfMemory);
+        }
+    }
+    Ok(frames)
 }

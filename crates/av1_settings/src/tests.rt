@@ -1,5 +1,0 @@
-mod checks;
-mod color;
-mod settings;
-mod stats;
-mod texts;
